@@ -1,3 +1,4 @@
+pub mod Compressing
 pub mod Digests
 pub mod Examples
 pub mod Hasher

@@ -3,7 +3,9 @@
 -- The standard defines digests of messages of fewer than 2 ^ 64 bits; of longer ones this takes the length modulo 2 ^ 64.
 -- Assumes nothing.
 use Prim.Native.Nat.{ℕ, zero, suc, _+_, _*_, _-_, _/_, _%_, _^_}
+use mathlib.Core.Bool.{cond}
 use mathlib.Core.List.{List, [], _∷_, _++_}
+use lib.Dec.{ltb}
 use lib.Bits.{bitAnd, bitOr, bitXor}
 use lib.ListN.{length, getD, take, drop, replicate}
 use Rattle.digest.specs.declared.words.Words.{Words}
@@ -95,11 +97,6 @@ block i m = take 64 (drop (64 * i) m)
 unfoldable pub word : ℕ → List ℕ → ℕ
 word i b = getD b (4 * i) 0 * 2 ^ 24 + getD b (4 * i + 1) 0 * 2 ^ 16 + getD b (4 * i + 2) 0 * 2 ^ 8 + getD b (4 * i + 3) 0
 
--- the first n words of a block
-unfoldable pub words : ℕ → List ℕ → List ℕ
-words zero b = []
-words (suc n) b = words n b ++ (word n b ∷ [])
-
 -- 5.3.3, the initial hash value
 
 unfoldable pub initial : Words
@@ -107,18 +104,18 @@ initial = record { a = 0x6a09e667; b = 0xbb67ae85; c = 0x3c6ef372; d = 0xa54ff53
 
 -- 6.2.2, the hash computation
 
--- step 1: Wt of the words before it, for t of 16 and above
-unfoldable pub Wt : ℕ → List ℕ → ℕ
-Wt t w = σ1 (getD w (t - 2) 0) ⊞ getD w (t - 7) 0 ⊞ σ0 (getD w (t - 15) 0) ⊞ getD w (t - 16) 0
+-- step 1: the word Wt of the schedule, from the block b and, from t = 16 on, the words w before it
+unfoldable pub Wt : ℕ → List ℕ → List ℕ → ℕ
+Wt t b w = cond (ltb t 16) (word t b) (σ1 (getD w (t - 2) 0) ⊞ getD w (t - 7) 0 ⊞ σ0 (getD w (t - 15) 0) ⊞ getD w (t - 16) 0)
 
--- the schedule with one word more
-unfoldable pub longer : List ℕ → List ℕ
-longer w = w ++ (Wt (length w) w ∷ [])
+-- the words w, and Wt after them
+unfoldable pub longer : ℕ → List ℕ → List ℕ → List ℕ
+longer t b w = w ++ (Wt t b w ∷ [])
 
--- W0 to W15 are the block's words, and n words follow them
+-- the words of the schedule below t
 unfoldable pub schedule : ℕ → List ℕ → List ℕ
-schedule zero b = words 16 b
-schedule (suc n) b = longer (schedule n b)
+schedule zero b = []
+schedule (suc t) b = longer t b (schedule t b)
 
 -- step 3: one round on the working variables a to h
 unfoldable pub T1 : Words → ℕ → ℕ → ℕ
@@ -141,7 +138,7 @@ added v u = record { a = v .a ⊞ u .a; b = v .b ⊞ u .b; c = v .c ⊞ u .c; d 
 
 -- steps 1 to 4: the hash value after the block b, from v before it
 unfoldable pub compressed : Words → List ℕ → Words
-compressed v b = added v (rounds 64 v (schedule 48 b))
+compressed v b = added v (rounds 64 v (schedule 64 b))
 
 -- the hash value after n blocks of m, from v before them
 unfoldable pub hashed : ℕ → Words → List ℕ → Words

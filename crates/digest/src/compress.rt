@@ -1,8 +1,10 @@
 // One block of 64 bytes: the message schedule, the 64 rounds, and the next hash value.
 ghost use mathlib.Core.Path.{_≡_};
-ghost use Prim.Native.Nat.{_<_, _/_};
-ghost use lib.ListN.{length, take};
-ghost use Rattle.digest.specs.Sha256.{word, words, schedule, round, rounds, added, compressed, hashed};
+ghost use Prim.Native.Nat.{_+_, _/_, _<_, _≤_};
+ghost use lib.ListN.{length, set};
+ghost use Rattle.digest.specs.declared.words.Words.{Words as AnyWords};
+ghost use Rattle.digest.specs.Compressing.{Reached};
+ghost use Rattle.digest.specs.Sha256.{word, Wt, round, added, compressed, hashed};
 use crate::constants::K;
 use crate::functions::big_sigma0;
 use crate::functions::big_sigma1;
@@ -25,29 +27,19 @@ fn word_at(block: &[u8; 64], i: usize) -> u32
     ])
 }
 
-// The block's 16 words, and 48 that are still to be computed.
-fn loaded(block: &[u8; 64]) -> [u32; 64]
-    ensures { λ r. ⌜ take 16 r ≡ words 16 (now (block .entry)) ⌝ }
+// Puts word t into the schedule, whose words before t are there: one of the block's, and from 16 on one that four before it give.
+fn fill(w: &mut [u32; 64], block: &[u8; 64], t: usize)
+    requires { ⌜ t < 64 ⌝ }
+    ensures { λ _. ⌜ now (w .exit) ≡ set (now (w .entry)) t (Wt t (now (block .entry)) (now (w .entry))) ⌝ }
 {
-    let mut w = [0u32; 64];
-    for t in 0..16 {
+    if t < 16 {
         w[t] = word_at(block, t);
-    }
-    w
-}
-
-// The message schedule: the block's 16 words, and each further one from four before it.
-fn expanded(block: &[u8; 64]) -> [u32; 64]
-    ensures { λ r. ⌜ r ≡ schedule 48 (now (block .entry)) ⌝ }
-{
-    let mut w = loaded(block);
-    for t in 16..64 {
+    } else {
         w[t] = small_sigma1(w[t - 2])
             .wrapping_add(w[t - 7])
             .wrapping_add(small_sigma0(w[t - 15]))
             .wrapping_add(w[t - 16]);
     }
-    w
 }
 
 // One of the 64 rounds, with its constant k and its word w of the schedule.
@@ -88,22 +80,36 @@ fn add(v: Words, u: Words) -> Words
     }
 }
 
-// The 64 rounds, from the hash value before the block, with the block's schedule.
-fn all_rounds(v: Words, w: &[u32; 64]) -> Words
-    ensures { λ r. ⌜ r ≡ rounds 64 v (now (w .entry)) ⌝ }
+// Word t of the schedule, and round t.
+fn step(v: Words, w: &mut [u32; 64], block: &[u8; 64], t: usize) -> Words
+    requires { ⌜ t < 64 ⌝ }
+    ensures { λ r. ⌜ ((h : AnyWords) → Reached h (now (block .entry)) t v (now (w .entry)) → Reached h (now (block .entry)) (t + 1) r (now (w .exit))) ⌝ }
 {
-    let mut u = v;
-    for t in 0..64 {
-        u = one_round(u, K[t], w[t]);
-    }
-    u
+    fill(w, block, t);
+    one_round(v, K[t], w[t])
+}
+
+// Four steps in a row: after them each working variable is back in the register that it began in, or nearly so, which a loop over single steps is slowed by.
+fn four_steps(v: Words, w: &mut [u32; 64], block: &[u8; 64], t: usize) -> Words
+    requires { ⌜ t + 4 ≤ 64 ⌝ }
+    ensures { λ r. ⌜ ((h : AnyWords) → Reached h (now (block .entry)) t v (now (w .entry)) → Reached h (now (block .entry)) (t + 4) r (now (w .exit))) ⌝ }
+{
+    let v = step(v, w, block, t);
+    let v = step(v, w, block, t + 1);
+    let v = step(v, w, block, t + 2);
+    step(v, w, block, t + 3)
 }
 
 // The hash value after a block, from v before it.
 pub fn compress(v: Words, block: &[u8; 64]) -> Words
     ensures { λ r. ⌜ r ≡ compressed v (now (block .entry)) ⌝ }
 {
-    add(v, all_rounds(v, &expanded(block)))
+    let mut w = [0u32; 64];
+    let mut u = v;
+    for i in 0..16 {
+        u = four_steps(u, &mut w, block, 4 * i);
+    }
+    add(v, u)
 }
 
 // The hash value after all whole blocks at the beginning of a message, from v before them.

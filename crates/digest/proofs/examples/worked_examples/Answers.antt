@@ -20,10 +20,9 @@ use Rattle.digest.specs.Sha256.{
   sha256,
   word,
   wordBytes,
-  words,
 }
 use Rattle.digest.proofs.examples.worked_examples.Needs as need
 
 pub returns : need.returns
-unfolding hex K T1 T2 Wt bigEndian block bytes compressed gap hashed initial longer padded round rounds schedule sha256 word wordBytes words
+unfolding hex K T1 T2 Wt bigEndian block bytes compressed gap hashed initial longer padded round rounds schedule sha256 word wordBytes
 returns c = record { empty = refl; one-block = refl; two-blocks = refl; longer = refl }
