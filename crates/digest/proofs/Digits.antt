@@ -19,9 +19,6 @@ use Rattle.digest.specs.Hex.{digit, hex}
 pub digit-same : (m n : ℕ) → m < 16 → n < 16 → digit m ≡ digit n → m ≡ n
 digit-same m n hm hn e = grind (arith, tells)
 
-pub digit-ascii : (n : ℕ) → n < 16 → digit n < 128
-digit-ascii n h = grind (arith, tells)
-
 pub zeros-ascii : (n : ℕ) → Ascii (replicate n 48)
 zeros-ascii zero = ascii-nil
 zeros-ascii (suc n) = ascii-cons 48 (replicate n 48) (lit< tt) (zeros-ascii n)
@@ -80,7 +77,7 @@ written-more bs text i d e h k p q so-far =
     cc
 
 -- two elements more of a list
-take-two : (text : List ℕ) (i : ℕ) → 2 * i + 1 < length text → take (2 * (i + 1)) text ≡ take (2 * i) text ++ (getD text (2 * i) 0 ∷ (getD text (2 * i + 1) 0 ∷ []))
+pub take-two : (text : List ℕ) (i : ℕ) → 2 * i + 1 < length text → take (2 * (i + 1)) text ≡ take (2 * i) text ++ (getD text (2 * i) 0 ∷ (getD text (2 * i + 1) 0 ∷ []))
 take-two text i h =
     let n : 2 * (i + 1) ≡ 2 * i + 1 + 1 = omega arith in
     let first : 2 * i < length text = omega arith in

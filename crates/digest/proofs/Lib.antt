@@ -1,7 +1,7 @@
 mod Absorbing
 mod BigEndian
 mod Blocks
-mod Digits
+pub mod Digits
 pub mod Order
 mod Padding
 mod Schedule

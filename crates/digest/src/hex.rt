@@ -1,6 +1,6 @@
 // A digest written as 64 lowercase hexadecimal digits, and read back from them.
 ghost use mathlib.Core.Path.{_≡_};
-ghost use Prim.Native.Nat.{_<_};
+ghost use Prim.Native.Nat.{_%_, _<_};
 ghost use Rattle.std.specs.Options.{Cases};
 ghost use Rattle.std.specs.Text.{Ascii};
 ghost use Rattle.std.specs.declared.option.Option.the-variants.{Some};
@@ -14,12 +14,17 @@ use std::str::from_utf8;
 #[derive(Clone, Copy, Debug)]
 pub struct NotADigest;
 
-// The digit of a number below 16.
-fn digit_of(n: u8) -> u8
-    requires { ⌜ n < 16 ⌝ }
-    ensures { λ r. ⌜ r ≡ digit n ⌝ }
+// The digit, in ASCII, of the lowest four bits of a number.
+pub fn hex_digit(n: u8) -> u8
+    ensures value { λ r. ⌜ r ≡ digit (n % 16) ⌝ }
+    ensures ascii { λ r. ⌜ r < 128 ⌝ }
 {
-    if n < 10 { b'0' + n } else { b'a' - 10 + n }
+    let low = n % 16;
+    if low < 10 {
+        b'0' + low
+    } else {
+        b'a' - 10 + low
+    }
 }
 
 // The number whose digit c is, if there is one.
@@ -42,8 +47,8 @@ impl Digest {
         let bytes = self.bytes;
         let mut text = [b'0'; 64];
         for i in 0..32 {
-            text[2 * i] = digit_of(bytes[i] / 16);
-            text[2 * i + 1] = digit_of(bytes[i] % 16);
+            text[2 * i] = hex_digit(bytes[i] / 16);
+            text[2 * i + 1] = hex_digit(bytes[i]);
         }
         text
     }

@@ -17,6 +17,7 @@ pub use hasher::sha256;
 pub use hex::DigestDisplay;
 pub use hex::DigestFromStr;
 pub use hex::NotADigest;
+pub use hex::hex_digit;
 pub use many::sha256_each;
 pub use many::sha256_parts;
 pub use value::Digest;

@@ -5,8 +5,8 @@ use native.Mathlib.Omega.{arith}
 use lib.ListN.{length, length-set, getD}
 use lib.Seq.{take-all}
 use Rattle.std.proofs.shelf.Ascii.{ascii-set}
-use Rattle.digest.specs.Hex.{hex}
-use Rattle.digest.proofs.Digits.{written-more, digit-ascii, zeros-ascii}
+use Rattle.digest.specs.Hex.{digit, hex}
+use Rattle.digest.proofs.Digits.{written-more, zeros-ascii}
 use Rattle.digest.proofs.value.Digest.digits.Needs as need
 
 pub loop-i-holds : need.loop-i-holds
@@ -17,11 +17,13 @@ pub loop-i-again : need.loop-i-again
 loop-i-again c =
     let within : c .loop-i .i < length (c .args .self .now .bytes) = omega arith in
     let room : 2 * c .loop-i .i + 1 < length (c .loop-i .text) = omega arith in
-    let high = digit-ascii (getD (c .args .self .now .bytes) (c .loop-i .i) 0 / 16) (omega arith) in
-    let low = digit-ascii (getD (c .args .self .now .bytes) (c .loop-i .i) 0 % 16) (omega arith) in (
-      written-more (c .args .self .now .bytes) (c .loop-i .text) (c .loop-i .i) _ _ within room (c .digit-of .ensures) (c .digit-of-in-loop-i .ensures) (c .loop-i .inv .0),
+    let byte : ℕ = getD (c .args .self .now .bytes) (c .loop-i .i) 0 in
+    let half : byte / 16 % 16 ≡ byte / 16 = omega arith in
+    let high = c .hex-digit .ensures .value ∙ ap digit half in
+    let low = c .hex-digit-in-loop-i .ensures .value in (
+      written-more (c .args .self .now .bytes) (c .loop-i .text) (c .loop-i .i) _ _ within room high low (c .loop-i .inv .0),
       simp length-set (c .loop-i .inv .1),
-      ascii-set _ _ _ (ascii-set _ _ _ (c .loop-i .inv .2) (rw (c .digit-of .ensures) high)) (rw (c .digit-of-in-loop-i .ensures) low),
+      ascii-set _ _ _ (ascii-set _ _ _ (c .loop-i .inv .2) (c .hex-digit .ensures .ascii)) (c .hex-digit-in-loop-i .ensures .ascii),
     )
 
 pub returns : need.returns

@@ -1,0 +1,5 @@
+mod Blanks
+mod Keeping
+mod Reading
+mod Shown
+mod Spelling

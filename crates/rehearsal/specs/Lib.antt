@@ -1,0 +1,6 @@
+pub mod Answers
+pub mod Lines
+pub mod Messages
+pub mod Numbers
+pub mod Quotes
+pub mod Readings
