@@ -156,8 +156,9 @@ fn answer(line: &[u8]) -> Option<Result<Digest, Refusal<'_>>> {
 
 /// The step `digest`, whose words after the name are `words`.
 fn digest<'a>(mut words: impl Iterator<Item = &'a [u8]>) -> Result<Digest, Refusal<'a>> {
-    let Some(first) = words.next() else {
-        return Ok(sha256(b""));
+    let first = match words.next() {
+        Some(first) => first,
+        None => return Ok(sha256(b"")),
     };
     if first != b"repeat" {
         return match words.next() {
@@ -165,9 +166,8 @@ fn digest<'a>(mut words: impl Iterator<Item = &'a [u8]>) -> Result<Digest, Refus
             Some(_) => Err(Refusal::Usage),
         };
     }
-    let (Some(byte), Some(count)) = (words.next(), words.next()) else {
-        return Err(Refusal::Usage);
-    };
+    let byte = words.next().ok_or(Refusal::Usage)?;
+    let count = words.next().ok_or(Refusal::Usage)?;
     if words.next().is_some() {
         return Err(Refusal::Usage);
     }

@@ -4,3 +4,4 @@ pub mod Messages
 pub mod Numbers
 pub mod Quotes
 pub mod Readings
+pub mod Texts

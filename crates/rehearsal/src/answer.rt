@@ -1,5 +1,7 @@
 // What is written for a line.
+ghost use Rattle.std.specs.declared.option.Option.the-variants.{Some};
 ghost use Rattle.rehearsal.specs.Answers.{Answers};
+ghost use Rattle.rehearsal.specs.Texts.{answerText};
 use crate::fault::Fault;
 use crate::fault::FaultDisplay;
 use crate::step::Step;
@@ -19,6 +21,8 @@ pub enum Answer {
 }
 
 pub impl fmt::Display for Answer as AnswerDisplay {
+    ghost shown = { λ a. Some (answerText a) };
+
     fn fmt<W: fmt::Write>(&self, f: &mut fmt::Formatter<W>) -> fmt::Result {
         match self {
             Answer::Nothing => Ok(()),

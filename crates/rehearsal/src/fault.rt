@@ -1,6 +1,8 @@
 // Why a line is not played, in the words of its answer.
 ghost use mathlib.Core.Path.{_≡_};
+ghost use Rattle.std.specs.declared.option.Option.the-variants.{Some};
 ghost use Rattle.rehearsal.specs.declared.fault.Fault.the-variants.{NoMemory};
+ghost use Rattle.rehearsal.specs.Texts.{faultText};
 use std::alloc::AllocError;
 use std::alloc::Refused;
 use std::fmt;
@@ -42,6 +44,8 @@ pub impl<T: Drop> From<Refused<T>> for Fault as FaultFromRefused {
 }
 
 pub impl fmt::Display for Fault as FaultDisplay {
+    ghost shown = { λ f. Some (faultText f) };
+
     fn fmt<W: fmt::Write>(&self, f: &mut fmt::Formatter<W>) -> fmt::Result {
         match self {
             Fault::TooLong => write!(f, "longer than 67108864 bytes"),
