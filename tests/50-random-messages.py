@@ -10,7 +10,7 @@ SEED = 1804
 
 
 def length(source):
-    """A length that is as likely in 0..9 as in 10..99, 100..999 and 1,000..9,999."""
+    """A length below 10, 100, 1,000 or 10,000, each bound as likely."""
     return source.randrange(10 ** source.randrange(1, 5))
 
 

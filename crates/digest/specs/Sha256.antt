@@ -1,4 +1,4 @@
--- SHA-256 as FIPS 180-4 has it, section by section and under its names, of messages that are whole bytes.
+-- SHA-256 as FIPS 180-4 has it, section by section, of messages that are whole bytes. Its letters and symbols are kept: Ch, Maj, Σ, σ, K, W, T1, T2, M, H.
 -- A word is a number below 2 ^ 32, a byte a number below 256, a message a list of bytes.
 -- The standard defines digests of messages of fewer than 2 ^ 64 bits; of longer ones this takes the length modulo 2 ^ 64.
 -- Assumes nothing.
@@ -40,12 +40,15 @@ x ⊕ y = bitXor x y
 
 -- 4.1.2, the functions
 
+-- (4.2) of each bit, y's where x has 1, and z's where x has 0
 abbrev pub Ch : ℕ → ℕ → ℕ → ℕ
 Ch x y z = bitAnd x y ⊕ bitAnd (complement x) z
 
+-- (4.3) of each bit, what two or three of x, y and z have
 abbrev pub Maj : ℕ → ℕ → ℕ → ℕ
 Maj x y z = bitAnd x y ⊕ bitAnd x z ⊕ bitAnd y z
 
+-- (4.4) to (4.7), mixtures of a word's rotations and shifts
 abbrev pub Σ0 : ℕ → ℕ
 Σ0 x = ROTR 2 x ⊕ ROTR 13 x ⊕ ROTR 22 x
 
@@ -60,6 +63,7 @@ abbrev pub σ1 : ℕ → ℕ
 
 -- 4.2.2, the constants K0 to K63
 
+-- in the order of the standard's table, row by row
 unfoldable pub K : List ℕ
 K =
     0x428a2f98 ∷ 0x71374491 ∷ 0xb5c0fbcf ∷ 0xe9b5dba5 ∷ 0x3956c25b ∷ 0x59f111f1 ∷ 0x923f82a4 ∷ 0xab1c5ed5
@@ -89,7 +93,7 @@ padded m = m ++ (0x80 ∷ (replicate (gap (length m)) 0 ++ bigEndian 8 (8 * leng
 
 -- 5.2.1, parsing
 
--- block i, counted from 0, of 64 bytes
+-- block i of 64 bytes, counted from 0: the standard's M(i + 1)
 unfoldable pub block : ℕ → List ℕ → List ℕ
 block i m = take 64 (drop (64 * i) m)
 
@@ -97,7 +101,7 @@ block i m = take 64 (drop (64 * i) m)
 unfoldable pub word : ℕ → List ℕ → ℕ
 word i b = getD b (4 * i) 0 * 2 ^ 24 + getD b (4 * i + 1) 0 * 2 ^ 16 + getD b (4 * i + 2) 0 * 2 ^ 8 + getD b (4 * i + 3) 0
 
--- 5.3.3, the initial hash value
+-- 5.3.3, the initial hash value: H0 is the field a, and so on to H7, the field h
 
 unfoldable pub initial : Words
 initial = record { a = 0x6a09e667; b = 0xbb67ae85; c = 0x3c6ef372; d = 0xa54ff53a; e = 0x510e527f; f = 0x9b05688c; g = 0x1f83d9ab; h = 0x5be0cd19 }
@@ -117,7 +121,7 @@ unfoldable pub schedule : ℕ → List ℕ → List ℕ
 schedule zero b = []
 schedule (suc t) b = longer t b (schedule t b)
 
--- step 3: one round on the working variables a to h
+-- step 3: T1 and T2 of the working variables v, and one round on them, with the constant k and the word w of the schedule
 unfoldable pub T1 : Words → ℕ → ℕ → ℕ
 T1 v k w = v .h ⊞ Σ1 (v .e) ⊞ Ch (v .e) (v .f) (v .g) ⊞ k ⊞ w
 
@@ -127,12 +131,12 @@ T2 v = Σ0 (v .a) ⊞ Maj (v .a) (v .b) (v .c)
 unfoldable pub round : Words → ℕ → ℕ → Words
 round v k w = record { a = T1 v k w ⊞ T2 v; b = v .a; c = v .b; d = v .c; e = v .d ⊞ T1 v k w; f = v .e; g = v .f; h = v .g }
 
--- the rounds below t, with the schedule w
+-- step 2 and step 3: the working variables begin as the hash value v, and go through the rounds below t, with the schedule w
 unfoldable pub rounds : ℕ → Words → List ℕ → Words
 rounds zero v w = v
 rounds (suc t) v w = round (rounds t v w) (getD K t 0) (getD w t 0)
 
--- step 4: word by word the sum
+-- step 4: the sum, word by word, of the hash value before and the working variables
 abbrev pub added : Words → Words → Words
 added v u = record { a = v .a ⊞ u .a; b = v .b ⊞ u .b; c = v .c ⊞ u .c; d = v .d ⊞ u .d; e = v .e ⊞ u .e; f = v .f ⊞ u .f; g = v .g ⊞ u .g; h = v .h ⊞ u .h }
 
@@ -140,22 +144,22 @@ added v u = record { a = v .a ⊞ u .a; b = v .b ⊞ u .b; c = v .c ⊞ u .c; d 
 unfoldable pub compressed : Words → List ℕ → Words
 compressed v b = added v (rounds 64 v (schedule 64 b))
 
--- the hash value after n blocks of m, from v before them
+-- steps 1 to 4 for each of n blocks of m, one after the other, from the hash value v
 unfoldable pub hashed : ℕ → Words → List ℕ → Words
 hashed zero v m = v
 hashed (suc i) v m = compressed (hashed i v m) (block i m)
 
--- 6.2, the digest
+-- the message digest H0 ‖ H1 ‖ .. ‖ H7
 
 -- words one after the other, each as four bytes
 unfoldable pub wordBytes : List ℕ → List ℕ
 wordBytes [] = []
 wordBytes (w ∷ ws) = bigEndian 4 w ++ wordBytes ws
 
--- H0 to H7 of a hash value
-unfoldable pub bytes : Words → List ℕ
-bytes v = wordBytes (v .a ∷ v .b ∷ v .c ∷ v .d ∷ v .e ∷ v .f ∷ v .g ∷ v .h ∷ [])
+-- those of a hash value
+unfoldable pub joinedWords : Words → List ℕ
+joinedWords v = wordBytes (v .a ∷ v .b ∷ v .c ∷ v .d ∷ v .e ∷ v .f ∷ v .g ∷ v .h ∷ [])
 
--- SHA-256 of a message
+-- 6.2, SHA-256 of a message: pad it, begin with the initial hash value (6.2.1), and hash all blocks (6.2.2)
 unfoldable pub sha256 : List ℕ → List ℕ
-sha256 m = bytes (hashed (length (padded m) / 64) initial (padded m))
+sha256 m = joinedWords (hashed (length (padded m) / 64) initial (padded m))

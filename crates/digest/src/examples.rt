@@ -1,7 +1,8 @@
-// The standard's worked examples, proved of the definitions that every contract here cites.
-ghost use Rattle.digest.specs.Examples.{Examples};
+// What shows that the definitions, which every contract here cites, are the standard's.
+ghost use Rattle.digest.specs.Examples.{Examples, Padding};
 
 // Nothing runs here: the contract is the theorem.
 pub fn worked_examples()
-    ensures { λ _. ⌜ Examples ⌝ }
+    ensures examples { λ _. ⌜ Examples ⌝ }
+    ensures padding { λ _. ⌜ Padding ⌝ }
 {}

@@ -7,6 +7,8 @@ ghost use Rattle.digest.specs.Sha256.{sha256};
 use crate::hasher;
 
 // Writes the 32 bytes of the message's digest into out and answers true. An out of another length is refused: false, and out stays as it was.
+// In C: bool zeltuva_sha256(const uint8_t *message, size_t message_length, uint8_t *out, size_t out_length). Nothing holds a caller there to what a
+// caller here owes by its types: both point to so many bytes, which do not overlap.
 #[unsafe(no_mangle)]
 pub extern "C" fn zeltuva_sha256(message: &[u8], out: &mut [u8]) -> bool
     ensures fits { λ r. ⌜ r ≡ eqb (length (now (out .entry))) 32 ⌝ }

@@ -11,12 +11,13 @@ use crate::constants::initial_value;
 use crate::value::Digest;
 use crate::words::Words;
 
-// value: the hash value after the whole blocks so far; rest: at its beginning the bytes after them, length modulo 64 of them;
-// length: how many bytes there were, modulo 2 to the 64.
-#[derive(Clone, Copy)]
+#[derive(Drop)]
 pub struct Hasher {
+    // the hash value after the whole blocks so far
     value: Words,
+    // at its beginning the bytes after those, length modulo 64 of them
     rest: [u8; 64],
+    // how many bytes there were, modulo 2 to the 64
     length: u64,
 }
 
@@ -57,16 +58,15 @@ impl Hasher {
     }
 
     // The digest of all that was taken in. The padding is taken in as the message was: the byte 0x80, bytes 0, and the message's length in bits.
-    pub fn finish(self) -> Digest
+    pub fn finish(mut self) -> Digest
         ensures { λ r. ⌜ ((m : List ℕ) → Absorbed self m → r ≡ digestOf m) ⌝ }
     {
         let bits = self.length.wrapping_mul(8);
         let zeros = ((119 - self.length % 64) % 64) as usize;
-        let mut padded = self;
-        padded.update(&[0x80]);
-        padded.update(&[0; 64][0..zeros]);
-        padded.update(&bits.to_be_bytes());
-        padded.value.to_digest()
+        self.update(&[0x80]);
+        self.update(&[0; 64][0..zeros]);
+        self.update(&bits.to_be_bytes());
+        self.value.to_digest()
     }
 }
 

@@ -7,6 +7,8 @@ mod functions;
 mod hasher;
 mod hex;
 mod many;
+#[cfg(test)]
+mod tests;
 mod value;
 mod words;
 

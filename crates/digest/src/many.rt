@@ -1,4 +1,4 @@
-// Digests of messages that lie in several slices.
+// Several slices in one call: parts of one message, or a message each.
 ghost use Rattle.std.specs.Of.Vec.{vec-items};
 ghost use Rattle.std.specs.Vec.{made};
 ghost use mathlib.Core.Path.{_≡_};

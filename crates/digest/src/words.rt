@@ -1,6 +1,6 @@
 // Eight 32-bit words: a hash value H0 to H7, or the working variables a to h of one block.
 ghost use mathlib.Core.Path.{_≡_};
-ghost use Rattle.digest.specs.Sha256.{bytes};
+ghost use Rattle.digest.specs.Sha256.{joinedWords};
 use crate::value::Digest;
 
 #[derive(Clone, Copy)]
@@ -18,7 +18,7 @@ pub struct Words {
 impl Words {
     // The words' bytes, the highest of each first.
     pub fn to_digest(self) -> Digest
-        ensures { λ r. ⌜ r ≡ record { bytes = bytes self } ⌝ }
+        ensures { λ r. ⌜ r ≡ record { bytes = joinedWords self } ⌝ }
     {
         let words = [
             self.a,

@@ -2,7 +2,7 @@
 -- Assumes nothing.
 use mathlib.Core.Path.{_≡_}
 use mathlib.Core.Logic.{_⊎_}
-use mathlib.Core.List.{List, [], _∷_}
+use mathlib.Core.List.{List, []}
 use Prim.Native.Nat.{ℕ, _<_}
 use lib.Chars.{codes}
 use lib.ListN.{length, getD, replicate}
@@ -35,6 +35,7 @@ third l = first (rest (rest l))
 abbrev pub fourth : List ℕ → List ℕ
 fourth l = first (rest (rest (rest l)))
 
+-- the word that stands before a byte and a count
 abbrev pub repeat : List ℕ
 repeat = codes "repeat"
 
@@ -59,9 +60,10 @@ WrongForm l = (0 < length (first l)) × (OneWord l → ⊥) × (RepeatForm l →
 abbrev pub WordsBlamed : List ℕ → Fault → Type 0
 WordsBlamed l f = (OneWord l × HexBlamed (first l) f) ⊎ (RepeatForm l × (ByteBlamed (second l) f ⊎ ((b : ℕ) × ByteRead (second l) (Ok b) × CountBlamed (third l) f)))
 
+-- why the words after a step's name stand for no bytes
 abbrev pub MessageBlamed : List ℕ → Fault → Type 0
 MessageBlamed l TooLong = ⊥
-MessageBlamed l NoMemory = Unit {0}
+MessageBlamed l NoMemory = WordsBlamed l NoMemory
 MessageBlamed l (UnknownStep t) = ⊥
 MessageBlamed l DigestForm = WrongForm l
 MessageBlamed l (NoHexDigit t place) = WordsBlamed l (NoHexDigit t place)
@@ -79,22 +81,27 @@ MessageRead l (Err f) = MessageBlamed l f
 abbrev pub Passes : List ℕ → Type 0
 Passes l = (first l ≡ []) ⊎ ((0 < length (first l)) × (getD (first l) 0 0 ≡ 35))
 
--- the step's name stands first
+-- the name of the step that asks for a digest
+abbrev pub digestStep : List ℕ
+digestStep = codes "digest"
+
+-- this name stands first
 abbrev pub Named : List ℕ → List ℕ → Type 0
 Named l name = first l ≡ name
 
+-- why a line is no step
 abbrev pub StepBlamed : List ℕ → Fault → Type 0
 StepBlamed l TooLong = ⊥
-StepBlamed l NoMemory = Unit {0}
-StepBlamed l (UnknownStep t) = (Passes l → ⊥) × (Named l (codes "digest") → ⊥) × (string-bytes t ≡ quotation (first l))
-StepBlamed l DigestForm = Named l (codes "digest") × MessageBlamed (rest l) DigestForm
-StepBlamed l (NoHexDigit t place) = Named l (codes "digest") × MessageBlamed (rest l) (NoHexDigit t place)
-StepBlamed l (OddDigits n) = Named l (codes "digest") × MessageBlamed (rest l) (OddDigits n)
-StepBlamed l (NoByte t) = Named l (codes "digest") × MessageBlamed (rest l) (NoByte t)
-StepBlamed l (NoCount t) = Named l (codes "digest") × MessageBlamed (rest l) (NoCount t)
+StepBlamed l NoMemory = (Passes l → ⊥) × (Named l digestStep → MessageBlamed (rest l) NoMemory)
+StepBlamed l (UnknownStep t) = (Passes l → ⊥) × (Named l digestStep → ⊥) × (string-bytes t ≡ quotation (first l))
+StepBlamed l DigestForm = Named l digestStep × MessageBlamed (rest l) DigestForm
+StepBlamed l (NoHexDigit t place) = Named l digestStep × MessageBlamed (rest l) (NoHexDigit t place)
+StepBlamed l (OddDigits n) = Named l digestStep × MessageBlamed (rest l) (OddDigits n)
+StepBlamed l (NoByte t) = Named l digestStep × MessageBlamed (rest l) (NoByte t)
+StepBlamed l (NoCount t) = Named l digestStep × MessageBlamed (rest l) (NoCount t)
 
 -- the step that a line is
 abbrev pub StepRead : List ℕ → Result Step Fault → Type 0
 StepRead l (Ok Pass) = Passes l
-StepRead l (Ok (Digest m)) = Named l (codes "digest") × MessageRead (rest l) (Ok m)
+StepRead l (Ok (Digest m)) = Named l digestStep × MessageRead (rest l) (Ok m)
 StepRead l (Err f) = StepBlamed l f

@@ -20,6 +20,7 @@ escaped b = codes "\\x" ++ (digit (b / 16) ∷ (digit (b % 16) ∷ []))
 abbrev pub shownByte : ℕ → List ℕ
 shownByte b = cond (plain b) (b ∷ []) (escaped b)
 
+-- bytes as they are shown, one after the other
 unfoldable pub shownBytes : List ℕ → List ℕ
 shownBytes [] = []
 shownBytes (b ∷ bs) = shownByte b ++ shownBytes bs

@@ -1,10 +1,12 @@
--- What the reading of a word may answer: a value, or the fault that is found. Want of memory may come in the place of every answer.
+-- What the reading of a word may answer: a value, or the fault that is found. Want of memory may come in the place of an answer that needs memory:
+-- the words of a fault, and the bytes that hexadecimal digits spell.
 -- Assumes nothing.
 use mathlib.Core.Path.{_≡_}
 use mathlib.Core.List.{List, [], _∷_}
 use Prim.Native.Nat.{ℕ, _+_, _%_, _≤_, _<_}
 use lib.ListN.{length, getD}
 use Rattle.std.specs.declared.alloc.Global.{Global}
+use Rattle.std.specs.declared.option.Option.{Option}
 use Rattle.std.specs.declared.option.Option.the-variants.{Some, None}
 use Rattle.std.specs.declared.result.Result.{Result}
 use Rattle.std.specs.declared.result.Result.the-variants.{Ok, Err}
@@ -13,13 +15,13 @@ use Rattle.std.specs.Of.String.{string-bytes}
 use Rattle.std.specs.Of.Vec.{vec-items}
 use Rattle.rehearsal.specs.declared.fault.Fault.{Fault}
 use Rattle.rehearsal.specs.declared.fault.Fault.the-variants.{TooLong, NoMemory, UnknownStep, DigestForm, NoHexDigit, OddDigits, NoByte, NoCount}
-use Rattle.rehearsal.specs.Numbers.{hexValue, HexDigits, paired, DecimalDigits, decimalValue}
+use Rattle.rehearsal.specs.Numbers.{hexValue, HexDigits, paired, DecimalDigits, decimalValue, mostRepeated}
 use Rattle.rehearsal.specs.Quotes.{quotation}
 
 -- the byte i of a word is not a hexadecimal digit; places are counted from 1
 abbrev pub NoDigitAt : List ℕ → ℕ → Fault → Type 0
 NoDigitAt w i TooLong = ⊥
-NoDigitAt w i NoMemory = Unit {0}
+NoDigitAt w i NoMemory = hexValue (getD w i 0) ≡ None
 NoDigitAt w i (UnknownStep t) = ⊥
 NoDigitAt w i DigestForm = ⊥
 NoDigitAt w i (NoHexDigit t place) = (place ≡ i + 1) × (hexValue (getD w i 0) ≡ None) × (string-bytes t ≡ quotation (getD w i 0 ∷ []))
@@ -51,7 +53,7 @@ HexRead w (Err f) = HexBlamed w f
 -- a word is not a byte of two hexadecimal digits
 abbrev pub ByteBlamed : List ℕ → Fault → Type 0
 ByteBlamed w TooLong = ⊥
-ByteBlamed w NoMemory = Unit {0}
+ByteBlamed w NoMemory = length w ≡ 2 → HexDigits w 2 → ⊥
 ByteBlamed w (UnknownStep t) = ⊥
 ByteBlamed w DigestForm = ⊥
 ByteBlamed w (NoHexDigit t place) = ⊥
@@ -59,21 +61,27 @@ ByteBlamed w (OddDigits n) = ⊥
 ByteBlamed w (NoByte t) = (length w ≡ 2 → HexDigits w 2 → ⊥) × (string-bytes t ≡ quotation w)
 ByteBlamed w (NoCount t) = ⊥
 
+-- the byte that two hexadecimal digits are
 abbrev pub ByteRead : List ℕ → Result ℕ Fault → Type 0
 ByteRead w (Ok b) = (length w ≡ 2) × HexDigits w 2 × (paired w ≡ b ∷ [])
 ByteRead w (Err f) = ByteBlamed w f
 
--- a word is not a number from 0 to 1,073,741,824
+-- the number that a word is, if it is one and not too large
+abbrev pub CountValue : List ℕ → Option ℕ → Type 0
+CountValue w None = DecimalDigits w (length w) → decimalValue w ≤ mostRepeated → ⊥
+CountValue w (Some n) = DecimalDigits w (length w) × (n ≡ decimalValue w) × (n ≤ mostRepeated)
+
+-- a word is not a number, or too large a one
 abbrev pub CountBlamed : List ℕ → Fault → Type 0
 CountBlamed w TooLong = ⊥
-CountBlamed w NoMemory = Unit {0}
+CountBlamed w NoMemory = CountValue w None
 CountBlamed w (UnknownStep t) = ⊥
 CountBlamed w DigestForm = ⊥
 CountBlamed w (NoHexDigit t place) = ⊥
 CountBlamed w (OddDigits n) = ⊥
 CountBlamed w (NoByte t) = ⊥
-CountBlamed w (NoCount t) = (DecimalDigits w (length w) → decimalValue w ≤ 1073741824 → ⊥) × (string-bytes t ≡ quotation w)
+CountBlamed w (NoCount t) = CountValue w None × (string-bytes t ≡ quotation w)
 
 abbrev pub CountRead : List ℕ → Result ℕ Fault → Type 0
-CountRead w (Ok n) = DecimalDigits w (length w) × (n ≡ decimalValue w) × (n ≤ 1073741824)
+CountRead w (Ok n) = CountValue w (Some n)
 CountRead w (Err f) = CountBlamed w f

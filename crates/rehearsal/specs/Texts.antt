@@ -11,6 +11,7 @@ use Rattle.rehearsal.specs.declared.answer.Answer.the-variants as answer
 use Rattle.rehearsal.specs.declared.fault.Fault.{Fault}
 use Rattle.rehearsal.specs.declared.fault.Fault.the-variants.{TooLong, NoMemory, UnknownStep, DigestForm, NoHexDigit, OddDigits, NoByte, NoCount}
 
+-- why a line is not played
 abbrev pub faultText : Fault → List ℕ
 faultText TooLong = codes "longer than 67108864 bytes"
 faultText NoMemory = codes "there is not enough memory"

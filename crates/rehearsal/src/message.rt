@@ -71,14 +71,17 @@ impl Message {
     }
 }
 
+// How many bytes of a repeated byte are hashed at a time.
+const BUFFER: usize = 4096;
+
 fn repeated_digest(byte: u8, count: u64) -> Digest
     ensures { λ r. ⌜ r ≡ digestOf (replicate count byte) ⌝ }
 {
-    let some = [byte; 4096];
+    let buffer = [byte; BUFFER];
     let mut hasher = Hasher::new();
     for _turn in 0..count / 4096 {
-        hasher.update(&some);
+        hasher.update(&buffer);
     }
-    hasher.update(&some[0..(count % 4096) as usize]);
+    hasher.update(&buffer[0..(count % 4096) as usize]);
     hasher.finish()
 }

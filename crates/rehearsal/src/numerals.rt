@@ -4,7 +4,7 @@ ghost use Prim.Native.Nat.{_<_};
 ghost use lib.ListN.{length};
 ghost use Rattle.std.specs.Slices.{found};
 ghost use Rattle.rehearsal.specs.Numbers.{hexValue};
-ghost use Rattle.rehearsal.specs.Readings.{DigitRead, HexRead, ByteRead, CountRead};
+ghost use Rattle.rehearsal.specs.Readings.{DigitRead, HexRead, ByteRead, CountValue, CountRead};
 use crate::fault::Fault;
 use crate::fault::FaultFromAlloc;
 use crate::fault::FaultFromRefused;
@@ -69,19 +69,29 @@ pub fn read_byte(heap: Global, word: &[u8]) -> Result<u8, Fault>
     Err(Fault::NoByte(quoted(heap, word)?))
 }
 
-// The number that decimal digits spell, up to the most that may be repeated.
-pub fn read_count(heap: Global, word: &[u8]) -> Result<u64, Fault>
-    ensures { λ r. ⌜ CountRead (now (word .entry)) r ⌝ }
+// The number that decimal digits spell, where it is one and not too large.
+fn count_value(word: &[u8]) -> Option<u64>
+    ensures { λ r. ⌜ CountValue (now (word .entry)) r ⌝ }
 {
     let mut count = 0u64;
     for c in word {
         if *c < b'0' || *c > b'9' {
-            return Err(Fault::NoCount(quoted(heap, word)?));
+            return None;
         }
         count = count * 10 + (*c - b'0') as u64;
         if count > MOST_REPEATED {
-            return Err(Fault::NoCount(quoted(heap, word)?));
+            return None;
         }
     }
-    Ok(count)
+    Some(count)
+}
+
+// How often a byte is repeated.
+pub fn read_count(heap: Global, word: &[u8]) -> Result<u64, Fault>
+    ensures { λ r. ⌜ CountRead (now (word .entry)) r ⌝ }
+{
+    match count_value(word) {
+        Some(count) => Ok(count),
+        None => Err(Fault::NoCount(quoted(heap, word)?)),
+    }
 }

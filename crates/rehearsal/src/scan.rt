@@ -15,7 +15,7 @@ fn is_blank(c: u8) -> bool
 }
 
 // How many bytes at the front are spaces or tabs, or are neither.
-fn run(line: &[u8], blanks: bool) -> usize
+fn run_length(line: &[u8], blanks: bool) -> usize
     ensures { λ r. ⌜ r ≡ leading (ofKind blanks) (now (line .entry)) ⌝ }
 {
     let mut n = 0;
@@ -29,11 +29,11 @@ fn run(line: &[u8], blanks: bool) -> usize
 pub fn next_word(line: &[u8]) -> Option<(&[u8], &[u8])>
     ensures { λ r. ⌜ Cases r (first (now (line .entry)) ≡ []) (λ p. (p .0 .now ≡ first (now (line .entry))) × (p .1 .now ≡ rest (now (line .entry))) × (0 < length (p .0 .now))) ⌝ }
 {
-    let (_, from) = line.split_at(run(line, true));
+    let (_, from) = line.split_at(run_length(line, true));
     if from.is_empty() {
         return None;
     }
-    Some(from.split_at(run(from, false)))
+    Some(from.split_at(run_length(from, false)))
 }
 
 // Is a word this one?

@@ -1,7 +1,4 @@
 // From standard input to standard output.
-ghost use mathlib.Core.Path.{_≡_};
-ghost use Prim.Native.Nat.{ℕ, _≤_, _<_};
-ghost use lib.ListN.{length, getD};
 use crate::answer::Answer;
 use crate::answer::AnswerDisplay;
 use crate::pending::Pending;
@@ -12,7 +9,7 @@ use std::io::Read;
 // How much of the script is read at a time.
 const CHUNK: usize = 65_536;
 
-// Writes an answer, if it is one.
+// Writes an answer, unless it is that nothing is written.
 fn write_answer(rt: &impl Print, answer: Answer) -> io::Result<()> {
     match answer {
         Answer::Nothing => Ok(()),
@@ -20,35 +17,20 @@ fn write_answer(rt: &impl Print, answer: Answer) -> io::Result<()> {
     }
 }
 
-// Where the first newline is, or how many bytes there are.
-fn line_end(bytes: &[u8]) -> usize
-    ensures within { λ r. ⌜ r ≤ length (now (bytes .entry)) ⌝ }
-    ensures before { λ r. ⌜ ((k : ℕ) → k < r → getD (now (bytes .entry)) k 0 ≡ 10 → ⊥) ⌝ }
-    ensures found { λ r. ⌜ (r < length (now (bytes .entry)) → getD (now (bytes .entry)) r 0 ≡ 10) ⌝ }
-{
-    for i in 0..bytes.len() {
-        if bytes[i] == b'\n' {
-            return i;
+// Takes in a part of the script, and writes the answer to each line that ends in it.
+fn play_part(rt: &impl Print, heap: Global, pending: &mut Pending, part: &[u8]) -> io::Result<()> {
+    let mut rest = part;
+    for _ in 0..part.len() {
+        let (answer, after) = pending.take_in(heap, rest);
+        if let Some(answer) = answer {
+            write_answer(rt, answer)?;
         }
-    }
-    bytes.len()
-}
-
-// Takes in a part of the script, and answers each line that ends in it. Answers whether a line is begun.
-fn take_in(rt: &impl Print, heap: Global, pending: &mut Pending, chunk: &[u8]) -> io::Result<bool> {
-    let mut rest = chunk;
-    while !rest.is_empty() {
-        let end = line_end(rest);
-        let (part, after) = rest.split_at(end);
-        pending.extend(part);
         if after.is_empty() {
-            return Ok(true);
+            break;
         }
-        write_answer(rt, pending.end(heap))?;
-        let (_, next) = after.split_at(1);
-        rest = next;
+        rest = after;
     }
-    Ok(false)
+    Ok(())
 }
 
 // Plays the script on standard input, and writes the answers to standard output. A last line without a newline is a line, too.
@@ -57,15 +39,15 @@ pub fn play(rt: &LibcRuntime) -> io::Result<()> {
     let mut input = rt.stdin();
     let mut buffer = vec![in heap; 0u8; CHUNK]?;
     let mut pending = Pending::new(heap);
-    let mut begun = false;
+    // Nothing says that an input ends, and every loop has to.
     for _ in 0..u64::MAX {
         let n = input.read(buffer.as_mut_slice())?;
         if n == 0 {
             break;
         }
-        begun = take_in(rt, heap, &mut pending, &buffer.as_slice()[0..n])?;
+        play_part(rt, heap, &mut pending, &buffer.as_slice()[0..n])?;
     }
-    if begun {
+    if pending.is_begun() {
         write_answer(rt, pending.end(heap))?;
     }
     Ok(())

@@ -4,7 +4,7 @@ use native.Mathlib.Omega.{arith}
 use lib.ListN.{length}
 use Rattle.digest.specs.declared.words.Words.{Words}
 use Rattle.digest.specs.Digests.{digestOf}
-use Rattle.digest.specs.Sha256.{sha256, bytes, gap, padded}
+use Rattle.digest.specs.Sha256.{sha256, joinedWords, gap, padded}
 use Rattle.digest.proofs.Padding.{eight-bytes, first-zeros, absorbed-padded, padded-whole, absorbed-whole}
 use Rattle.digest.proofs.hasher.Hasher.finish.Needs as need
 
@@ -17,4 +17,4 @@ returns c =
     let zeros = first-zeros ((119 - c .args .self .length % 64) % 64) (gap (length m)) (omega arith) (omega arith) in
     let end = c .to-be-bytes .ensures ∙ eight-bytes (length m) (c .args .self .length) size in
     let value = absorbed-whole (c .update-3 .last .self) (padded m) (padded-whole m) (absorbed-padded (c .update-3 .last .self) m _ _ zeros end padding) in
-    c .to-digest .ensures ∙ ap (λ (v : Words). record { bytes = bytes v }) value
+    c .to-digest .ensures ∙ ap (λ (v : Words). record { bytes = joinedWords v }) value

@@ -7,7 +7,7 @@ use lib.ListN.{length, getD}
 use lib.Seq.{take-all}
 use Rattle.std.proofs.shelf.Parts.{overwrites}
 use Rattle.digest.specs.declared.words.Words.{Words}
-use Rattle.digest.specs.Sha256.{wordBytes, bytes}
+use Rattle.digest.specs.Sha256.{wordBytes, joinedWords}
 use Rattle.digest.proofs.BigEndian.{four-bytes, word-written}
 use Rattle.digest.proofs.words.Words.to_digest.Needs as need
 
@@ -24,7 +24,7 @@ loop-i-again c =
     )
 
 pub returns : need.returns
-unfolding bytes
+unfolding joinedWords
 returns c =
     let e : c .loop-i .i ≡ 8 = omega arith in
     let h = c .loop-i .inv .0 in

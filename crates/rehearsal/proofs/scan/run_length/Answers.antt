@@ -1,6 +1,6 @@
 use native.Mathlib.Omega.{arith}
 use Rattle.rehearsal.proofs.Blanks.{run-more, run-stops, run-all}
-use Rattle.rehearsal.proofs.scan.run.Needs as need
+use Rattle.rehearsal.proofs.scan.run_length.Needs as need
 
 pub loop-n-again : need.loop-n-again
 loop-n-again c = (

@@ -1,12 +1,11 @@
-use mathlib.Core.Path.{_≡_, sym, ap, _∙_}
-use mathlib.Core.List.{List}
-use Prim.Native.Nat.{ℕ, _+_, _*_, _-_, _≤_, _<_}
+use mathlib.Core.Path.{sym, ap, _∙_}
+use Prim.Native.Nat.{ℕ, _+_, _*_, _-_}
 use native.Mathlib.Omega.{arith}
-use lib.ListN.{length, getD, take}
+use lib.ListN.{getD}
 use lib.Seq.{take-all}
 use Rattle.rehearsal.specs.Numbers.{decimalValue}
 use Rattle.rehearsal.proofs.Reading.{decimals-more, decimal-more, decimal-front}
-use Rattle.rehearsal.proofs.numerals.read_count.Needs as need
+use Rattle.rehearsal.proofs.numerals.count_value.Needs as need
 
 pub returns-then-count-gt-MOST-REPEATED : need.returns-then-count-gt-MOST-REPEATED
 returns-then-count-gt-MOST-REPEATED c =
@@ -14,7 +13,7 @@ returns-then-count-gt-MOST-REPEATED c =
     let front = decimal-front (c .args .word .now) (c .loop-c .c-index + 1) in
     let so-far = c .loop-c .inv .2 in
     let large = c .if-count-gt-MOST-REPEATED .taken in
-    (λ digits small. omega (arith, more, front, so-far, large, small), c .in-Continue-quoted-2 .ensures tt)
+    λ digits small. omega (arith, more, front, so-far, large, small)
 
 pub loop-c-again : need.loop-c-again
 loop-c-again c =

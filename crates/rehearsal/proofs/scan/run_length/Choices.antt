@@ -3,7 +3,7 @@ use Prim.Native.Nat.{_+_, _-_, _≤_}
 use lib.ListN.{length, drop}
 use Rattle.std.specs.shelf.Lists.{leading}
 use Rattle.rehearsal.specs.Lines.{ofKind}
-use Rattle.rehearsal.proofs.scan.run.Given as given
+use Rattle.rehearsal.proofs.scan.run_length.Given as given
 
 abbrev pub Inv-loop-n : given.InvT-loop-n
 Inv-loop-n l = (l .n ≤ length (l .line)) × (l .n + leading (ofKind (l .blanks)) (drop (l .n) (l .line)) ≡ leading (ofKind (l .blanks)) (l .line))
