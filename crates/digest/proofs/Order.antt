@@ -1,4 +1,4 @@
--- Digests are compared as their bytes are, and that is a lawful order and a lawful equality: what a sort or a map of digests asks for.
+-- Digests are compared as their bytes are, and that order is total: what a sort or a map of digests asks for.
 -- Assumes nothing.
 use mathlib.Core.Path.{_≡_, refl, sym, ap, _∙_}
 use mathlib.Core.List.{List, [], _∷_}
@@ -8,10 +8,9 @@ use Rattle.std.specs.declared.cmp.Ordering.{Ordering}
 use Rattle.std.specs.declared.cmp.Ordering.the-variants.{Less, Equal, Greater}
 use Rattle.std.specs.Orderings.{Ranked, reversed}
 use Rattle.std.specs.Lexical.{Lex, lex, lexical}
-use Rattle.std.specs.Keys.{Total, unsigned}
+use Rattle.std.specs.Keys.{unsigned}
 use Rattle.std.proofs.shelf.Ways.{tells}
-use Rattle.digest.specs.declared.value.Digest.{Digest}
-use Rattle.digest.specs.Order.{order}
+use Rattle.digest.specs.Order.{order, TotalOrder}
 
 -- what the comparison of two arrays answers is this order
 pub lex-is-order : (xs ys : List ℕ) (r : Ordering) → Lex (λ (a b : ℕ) (k : Ordering). Ranked k (a < b) (a ≡ b) (b < a)) xs ys r → r ≡ order xs ys
@@ -32,7 +31,7 @@ order-is-lex (x ∷ xs) [] = refl
 order-is-lex (x ∷ xs) (y ∷ ys) = let ih = order-is-lex xs ys in grind (arith, tells)
 
 -- the order of digests is total
-abbrev pub digest-order : Total (λ (x y : Digest) (r : Ordering). r ≡ order (x .bytes) (y .bytes))
+abbrev pub digest-order : TotalOrder
 digest-order = record {
   cmp = λ x y. order (x .bytes) (y .bytes);
   says = λ x y r h. h;

@@ -1,4 +1,4 @@
--- SHA-256 as FIPS 180-4 has it, section by section, of messages that are whole bytes. Its letters and symbols are kept: Ch, Maj, Σ, σ, K, W, T1, T2, M, H.
+-- SHA-256 as FIPS 180-4 has it, section by section, of messages that are whole bytes. Its letters are kept where it has one: Ch, Maj, Σ, σ, K, W, T1, T2.
 -- A word is a number below 2 ^ 32, a byte a number below 256, a message a list of bytes.
 -- The standard defines digests of messages of fewer than 2 ^ 64 bits; of longer ones this takes the length modulo 2 ^ 64.
 -- Assumes nothing.

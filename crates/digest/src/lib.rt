@@ -27,3 +27,4 @@ pub use value::DigestEq;
 pub use value::DigestOrd;
 pub use value::DigestPartialEq;
 pub use value::DigestPartialOrd;
+pub use value::order_is_total;

@@ -2,7 +2,7 @@
 ghost use mathlib.Core.Path.{_≡_};
 ghost use Rattle.std.specs.Orderings.{Decides};
 ghost use Rattle.std.specs.declared.option.Option.the-variants.{Some};
-ghost use Rattle.digest.specs.Order.{order};
+ghost use Rattle.digest.specs.Order.{order, TotalOrder};
 use std::cmp::Ordering;
 
 #[derive(Clone, Copy)]
@@ -49,3 +49,8 @@ pub impl Ord for Digest as DigestOrd {
         self.bytes.cmp(&other.bytes)
     }
 }
+
+// The order is total. Nothing runs here: the contract is the theorem.
+pub fn order_is_total()
+    ensures { λ _. ⌜ TotalOrder ⌝ }
+{}
