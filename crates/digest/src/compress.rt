@@ -89,8 +89,7 @@ fn step(v: Words, w: &mut [u32; 64], block: &[u8; 64], t: usize) -> Words
     one_round(v, K[t], w[t])
 }
 
-// Four steps in a row. In a loop over single steps each of the eight working variables is moved in each round; over four at a time most of these moves
-// are gone, and a block takes about nine tenths of the time.
+// Four steps in a row, which was measured to be faster than a loop over single ones (docs/DECISIONS.md has the figures).
 fn four_steps(v: Words, w: &mut [u32; 64], block: &[u8; 64], t: usize) -> Words
     requires { ⌜ t + 4 ≤ 64 ⌝ }
     ensures { λ r. ⌜ ((h : AnyWords) → Reached h (now (block .entry)) t v (now (w .entry)) → Reached h (now (block .entry)) (t + 4) r (now (w .exit))) ⌝ }
