@@ -1,6 +1,6 @@
 -- Blocks of a message, and the hash value after some of them.
 -- Assumes nothing.
-use Rattle.std.proofs.Common.{◌≡◌, ℕ, zero, suc, ◌+◌, ◌*◌, ◌<◌, ◌≤◌, List, [], ◌∷◌, ◌++◌, length, get_or, take, drop, sym, refl, ap, ◌∙◌, not-suc-le-zero, add-zero, add-suc, add-one, arith, length-drop, drop-drop}
+use Rattle.std.proofs.Common.{◌≡◌, ℕ, zero, suc, ◌+◌, ◌*◌, ◌<◌, ◌≤◌, List, ◌++◌, length, get_or, take, drop, refl, ap, ◌∙◌, not-suc-le-zero, add-zero, add-suc, add-one, arith, length-drop, drop-drop}
 use lib.Seq.{take-append-le, drop-append-le, drop-append-add}
 use Rattle.std.specs.Simd.{first_chunks}
 use Rattle.digest.specs.declared.words.Words.{Words}

@@ -1,6 +1,6 @@
 -- The hexadecimal digits of bytes, written and read one byte after another.
 -- Assumes nothing.
-use Rattle.std.proofs.Common.{◌≡◌, ℕ, zero, suc, ◌+◌, ◌*◌, ◌/◌, ◌%◌, ◌<◌, List, [], ◌∷◌, ◌++◌, length, get_or, take, set, replicate, IsAscii, sym, refl, ap, ◌∙◌, append_assoc, not-suc-le-zero, add-one, arith, lit<, length-set, take-suc-set}
+use Rattle.std.proofs.Common.{◌≡◌, ℕ, zero, suc, ◌+◌, ◌*◌, ◌/◌, ◌%◌, ◌<◌, List, [], ◌∷◌, ◌++◌, length, get_or, take, set, replicate, IsAscii, sym, refl, ap, ◌∙◌, append_assoc, not-suc-le-zero, arith, lit<, length-set, take-suc-set}
 use Rattle.std.proofs.lemmas.Str.Ascii.{IsAscii-nil, IsAscii-cons}
 use Rattle.std.proofs.lemmas.Bool.Decides.{nat_tests}
 use Rattle.std.proofs.lemmas.List.{take_more, take_more_set}

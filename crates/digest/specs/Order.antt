@@ -1,6 +1,6 @@
 -- The order of digests.
 -- Assumes nothing.
-use Rattle.std.specs.Prelude.{◌≡◌, ℕ, cond, List, [], ◌∷◌, ◌==◌, nat_lt}
+use Rattle.std.specs.Prelude.{ℕ, cond, List, [], ◌∷◌, ◌==◌, nat_lt}
 use Rattle.std.specs.declared.cmp.Ordering.TheVariants.{Less, Equal, Greater}
 use Rattle.std.specs.declared.cmp.Ordering.{Ordering}
 use Rattle.std.specs.Cmp.{IsTotalOrder}
@@ -15,4 +15,4 @@ order (x ∷ xs) (y ∷ ys) = cond (x == y) (order xs ys) (cond (nat_lt x y) Les
 
 -- the order that `cmp` answers with is total, in the form that the contracts of sorts and maps ask for
 abbrev pub TotalOrder : Type 0
-TotalOrder = IsTotalOrder (λ (x y : Digest) (r : Ordering). r ≡ order x.bytes y.bytes)
+TotalOrder = IsTotalOrder (λ (x y : Digest). order x.bytes y.bytes)

@@ -77,7 +77,7 @@ impl fmt::Display for Digest {
         let digits = self.digits();
         match from_utf8(&digits) {
             Ok(text) => f.pad(text),
-            Err(_) => unreachable(),
+            Err(_) => unreachable!(),
         }
     }
 }

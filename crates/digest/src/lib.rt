@@ -1,4 +1,6 @@
 // SHA-256, and the digest that is a piece's name.
+#![tactic(auto)]
+
 mod compress;
 mod constants;
 mod examples;

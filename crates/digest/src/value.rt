@@ -1,9 +1,12 @@
 // A digest: 32 bytes, compared as bytes are.
-ghost use Rattle.std.specs.Prelude.{◌≡◌, Some, Decides};
-ghost use Rattle.digest.specs.Order.{order, TotalOrder};
+ghost use Rattle.std.specs.Prelude.{◌≡◌, Some, Decides, nat_eq};
+ghost use Rattle.std.specs.Cmp.{partial_equiv_from_equiv, partial_order_from_own_ties};
+ghost use Rattle.std.specs.Cmp.Lexicographic.{pointwise, slice_cmp};
 ghost use Rattle.std.specs.Cmp.Rules.{comparing};
+ghost use Rattle.std.specs.Ordering.{as_partial_cmp, nat_cmp, on};
 ghost use Rattle.std.proofs.Common.{rules};
-ghost use Rattle.std.specs.Cmp as Keys;
+ghost use Rattle.digest.specs.declared.value.Digest.{Digest as AnyDigest};
+ghost use Rattle.digest.specs.Order.{order, TotalOrder};
 
 use std::cmp::Ordering;
 
@@ -26,12 +29,15 @@ impl Digest {
     }
 }
 
-impl PartialEq<Digest> for Digest {
-    ghost equals = { λ x y r. Decides r (x ≡ y) };
+impl PartialEq for Digest {
+    ghost eq = { on (λ d. d.bytes) (pointwise nat_eq) };
 
-    ghost laws = { Keys.partial_equiv_from_equiv (Prim.search (comparing, rules)) };
+    ghost laws = { partial_equiv_from_equiv (Prim.search (comparing, rules)) };
 
-    fn eq(&self, other: &Digest) -> bool {
+    fn eq(&self, other: &Digest) -> bool
+        ensures answer { result ≡ on (λ (d : AnyDigest). d.bytes) (pointwise nat_eq) self.now other.now }
+        ensures decides { Decides result (self.now ≡ other.now) }
+    {
         self.bytes == other.bytes
     }
 }
@@ -40,18 +46,21 @@ impl Eq for Digest {
     ghost laws = { Prim.search (comparing, rules) };
 }
 
-impl PartialOrd<Digest> for Digest {
-    ghost compares = { λ x y r. r ≡ Some (order x.bytes y.bytes) };
+impl PartialOrd for Digest {
+    ghost partial_cmp = { as_partial_cmp (on (λ d. d.bytes) (slice_cmp nat_cmp)) };
 
-    ghost laws = { Prim.search (comparing, rules) };
+    ghost laws = { partial_order_from_own_ties (Prim.search (comparing, rules)) (Prim.search (comparing, rules)) };
 
-    fn partial_cmp(&self, other: &Digest) -> Option<Ordering> {
+    fn partial_cmp(&self, other: &Digest) -> Option<Ordering>
+        ensures answer { result ≡ as_partial_cmp (on (λ (d : AnyDigest). d.bytes) (slice_cmp nat_cmp)) self.now other.now }
+        ensures order { result ≡ Some (order self.now.bytes other.now.bytes) }
+    {
         Some(self.cmp(other))
     }
 }
 
 impl Ord for Digest {
-    ghost orders = { λ x y r. r ≡ order x.bytes y.bytes };
+    ghost cmp = { on (λ d. d.bytes) (slice_cmp nat_cmp) };
 
     ghost total = { Prim.search (comparing, rules) };
 
@@ -59,7 +68,10 @@ impl Ord for Digest {
 
     ghost matches_eq = { Prim.search (comparing, rules) };
 
-    fn cmp(&self, other: &Digest) -> Ordering {
+    fn cmp(&self, other: &Digest) -> Ordering
+        ensures answer { result ≡ on (λ (d : AnyDigest). d.bytes) (slice_cmp nat_cmp) self.now other.now }
+        ensures order { result ≡ order self.now.bytes other.now.bytes }
+    {
         self.bytes.cmp(&other.bytes)
     }
 }

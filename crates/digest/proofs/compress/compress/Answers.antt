@@ -1,5 +1,4 @@
 use Rattle.std.proofs.Common.{◌≡◌, ◌+◌, ◌*◌, ap, ◌∙◌, arith}
-use Rattle.digest.specs.declared.words.Words.{Words}
 use Rattle.digest.specs.Sha256.{added, compressed}
 use Rattle.digest.proofs.Schedule.{reached_none, reached_at}
 use Rattle.digest.proofs.compress.compress.Goals as goal

@@ -1,4 +1,3 @@
-use Rattle.std.proofs.Common.{rules}
 use Rattle.std.proofs.lemmas.Bool.{lt-ltb, le-ltb}
 use Rattle.digest.specs.Sha256.{Wt}
 use Rattle.digest.proofs.compress.fill.Goals as goal

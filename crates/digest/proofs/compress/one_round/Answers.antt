@@ -1,4 +1,4 @@
-use Rattle.std.proofs.Common.{refl, rules}
+use Rattle.std.proofs.Common.{rules}
 use Rattle.digest.specs.Sha256.{round, T1, T2}
 use Rattle.digest.proofs.compress.one_round.Goals as goal
 

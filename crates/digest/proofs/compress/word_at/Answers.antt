@@ -1,4 +1,3 @@
-use Rattle.std.proofs.Common.{rules}
 use Rattle.digest.specs.Sha256.{word}
 use Rattle.digest.proofs.compress.word_at.Goals as goal
 

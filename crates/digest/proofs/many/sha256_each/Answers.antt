@@ -1,4 +1,4 @@
-use Rattle.std.proofs.Common.{List, [], ◌∷◌, ◌++◌, take, vec_items, sym, refl, ap, ◌∙◌, take_all}
+use Rattle.std.proofs.Common.{[], ◌∷◌, ◌++◌, take, sym, ap, ◌∙◌, take_all}
 use Rattle.std.proofs.lemmas.Slice.{pushed}
 use Rattle.digest.specs.declared.value.Digest.{Digest}
 use Rattle.digest.specs.Digests.{digest_of_each}

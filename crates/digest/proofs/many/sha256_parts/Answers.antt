@@ -1,4 +1,4 @@
-use Rattle.std.proofs.Common.{◌≤◌, length, sym, ap, ◌∙◌, subst, arith, take_all}
+use Rattle.std.proofs.Common.{sym, ap, subst, take_all}
 use Rattle.digest.specs.Digests.{joined}
 use Rattle.digest.specs.Hasher.{Absorbed}
 use Rattle.digest.proofs.Several.{joined_more}

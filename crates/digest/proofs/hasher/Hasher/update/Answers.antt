@@ -1,4 +1,4 @@
-use Rattle.std.proofs.Common.{◌≡◌, ℕ, ◌+◌, ◌/◌, ◌%◌, ◌^◌, List, ◌++◌, length, take, sym, ap, ◌∙◌, subst, zero-add}
+use Rattle.std.proofs.Common.{ℕ, ◌+◌, ◌/◌, ◌%◌, ◌^◌, List, ◌++◌, length, sym, ap, ◌∙◌, subst, zero-add}
 use Rattle.digest.specs.declared.words.Words.{Words}
 use Rattle.digest.specs.Hasher.{Absorbed}
 use Rattle.digest.specs.Sha256.{hashed}
@@ -19,4 +19,4 @@ returns c =
     (λ (s : List ℕ). Absorbed (record { value = c.compress_all-self.result; rest = c.put-3.new.block; length = (c.args.self.now.length + length s) % 2 ^ 64 }) (m ++ s))
     (sym c.split_at.ensures.by_index.0)
     (absorbs_many c.args.self.now m c.split_at.result.0.now after c.split_at-2.result.1.now c.put-2.new.block c.put-3.new.block c.compress_all-self.result
-    c.split_at.ensures.front-len c.put-2.array_long c.put-2.ensures value c.split_at-2.ensures.back (rw zero-add at kept) a)
+    c.split_at.ensures.front_len c.put-2.array_long c.put-2.ensures value c.split_at-2.ensures.back (rw zero-add at kept) a)

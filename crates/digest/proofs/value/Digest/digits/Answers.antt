@@ -1,4 +1,4 @@
-use Rattle.std.proofs.Common.{◌≡◌, ℕ, ◌+◌, ◌*◌, ◌/◌, ◌%◌, ◌<◌, ◌≤◌, List, length, get_or, sym, refl, ap, ◌∙◌, arith, length-set, take_all}
+use Rattle.std.proofs.Common.{◌≡◌, ℕ, ◌+◌, ◌*◌, ◌/◌, ◌%◌, ◌<◌, ◌≤◌, length, get_or, sym, refl, ap, ◌∙◌, arith, length-set, take_all}
 use Rattle.std.proofs.lemmas.Str.Ascii.{IsAscii-set}
 use Rattle.digest.specs.Hex.{digit, hex}
 use Rattle.digest.proofs.Digits.{written_more, zeros_ascii}

@@ -1,6 +1,5 @@
-use Rattle.std.proofs.Common.{◌≡◌, ℕ, ◌*◌, ◌<◌, ◌≤◌, List, [], ◌∷◌, length, get_or, sym, refl, ap, ◌∙◌, arith, take_all, rules}
+use Rattle.std.proofs.Common.{◌≡◌, ℕ, ◌*◌, ◌<◌, ◌≤◌, List, length, sym, refl, ap, ◌∙◌, arith, take_all, rules}
 use Rattle.std.proofs.lemmas.Slice.{overwrites}
-use Rattle.digest.specs.declared.words.Words.{Words}
 use Rattle.digest.specs.Sha256.{word_bytes, joined_words}
 use Rattle.digest.proofs.BigEndian.{four_bytes, word_written}
 use Rattle.digest.proofs.words.Words.to_digest.Goals as goal
