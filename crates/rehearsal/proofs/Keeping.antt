@@ -1,6 +1,6 @@
 -- A line that is kept, or is no more.
 -- Assumes nothing.
-use Rattle.std.proofs.Common.{◌≡◌, ℕ, ◌+◌, ◌-◌, ◌<◌, ◌≤◌, Bool, true, List, [], ◌∷◌, ◌++◌, length, get_or, take, drop, is_err, Ok, Err, vec_len, Result, sym, refl, ap, ◌∙◌, subst, true≢false, not-suc-le-zero, arith, length-append, length-take, get_or-take, MatchResult}
+use Rattle.std.proofs.Common.{◌≡◌, ℕ, ◌-◌, ◌<◌, ◌≤◌, true, List, [], ◌∷◌, ◌++◌, length, get_or, take, drop, is_err, Ok, Err, vec_len, Result, sym, refl, ap, ◌∙◌, subst, true≢false, not-suc-le-zero, arith, length-append, length-take, get_or-take, MatchResult}
 use Rattle.rehearsal.specs.declared.pending.Pending.{Pending}
 use Rattle.rehearsal.specs.declared.pending.State.{State}
 use Rattle.rehearsal.specs.declared.pending.State.TheVariants as state

@@ -1,3 +1,5 @@
-mod Exits
+mod Blanks
 mod Keeping
-mod Lists
+mod Reading
+mod Shown
+mod Spelling

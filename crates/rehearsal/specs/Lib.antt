@@ -1,4 +1,7 @@
 pub mod Answers
-pub mod Listings
-pub mod Steps
+pub mod Lines
+pub mod Messages
+pub mod Numbers
+pub mod Quotes
+pub mod Readings
 pub mod Texts

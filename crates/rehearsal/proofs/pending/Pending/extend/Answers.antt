@@ -9,7 +9,7 @@ returns-then-part-saturating_sub c =
 
 pub returns-then-is_err : goal.returns-then-is_err
 returns-then-is_err c =
-    let short = at_error _ c.extend_from_slice.result (sym c.if-is_err.ensures.value) c.extend_from_slice.ensures.cases in
+    let short = at_error _ c.extend_from_slice.result (sym c.if-is_err.ensures.value) c.extend_from_slice.ensures.full in
     let room = c.args.self.now.line.ok.1 in
     record { ended = refl; line = λ l h. rw length-append (omega (arith, short, room)) }
 
