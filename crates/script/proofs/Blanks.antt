@@ -1,6 +1,6 @@
 -- Runs of bytes that are blank, or are not.
 -- Assumes nothing.
-use Rattle.std.proofs.Common.{◌≡◌, ℕ, suc, ◌+◌, ◌<◌, ◌≤◌, Bool, true, false, cond, not, List, [], ◌∷◌, length, get_or, take, drop, sym, refl, ap, ◌∙◌, ⊎_elim, true≢false, not-suc-le-zero, one-add, arith, length-take}
+use Rattle.std.proofs.Common.{◌≡◌, ℕ, ◌+◌, ◌<◌, ◌≤◌, Bool, true, false, not, List, [], ◌∷◌, length, get_or, take, drop, sym, ap, ◌∙◌, ⊎_elim, true≢false, not-suc-le-zero, one-add, arith, length-take}
 use mathlib.Core.Bool.{beq}
 use lib.Seq.{take-nil}
 use Rattle.std.specs.List.{prefix_len}

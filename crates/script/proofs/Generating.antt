@@ -1,6 +1,6 @@
 -- Bytes of the generator, one after the other and many at a time.
 -- Assumes nothing.
-use Rattle.std.proofs.Common.{◌≡◌, ℕ, zero, suc, ◌+◌, ◌/◌, ◌^◌, ◌≤◌, List, [], ◌∷◌, ◌++◌, length, take, sym, refl, ap, ◌∙◌, le_of_suc-le-suc, suc-add, zero-add, add-one}
+use Rattle.std.proofs.Common.{◌≡◌, ℕ, zero, suc, ◌+◌, ◌/◌, ◌^◌, ◌≤◌, List, [], ◌∷◌, ◌++◌, length, take, refl, ap, ◌∙◌, le_of_suc-le-suc, suc-add, zero-add}
 use Rattle.script.specs.Generators.{advance, advanced, generated}
 
 -- the bytes after the first m follow from the number that is reached then

@@ -1,6 +1,6 @@
 -- Numbers that are read digit by digit.
 -- Assumes nothing.
-use Rattle.std.proofs.Common.{◌≡◌, ℕ, suc, ◌+◌, ◌-◌, ◌*◌, ◌%◌, ◌<◌, ◌≤◌, true, leb, List, [], ◌∷◌, ◌++◌, length, get_or, take, drop, is_some, IsErrAnd, Some, None, Ok, fold, Option, Result, Vec, unwrap_or, sym, refl, ap, ◌∙◌, subst, ⊎_elim, not-suc-le-zero, add-one, arith, take-append-drop, length-take, length-take-le, take_all, drop-cons}
+use Rattle.std.proofs.Common.{◌≡◌, ℕ, ◌+◌, ◌-◌, ◌*◌, ◌%◌, ◌<◌, ◌≤◌, leb, List, [], ◌∷◌, ◌++◌, length, get_or, take, drop, is_some, IsErrAnd, Some, Ok, fold, Option, Result, Vec, unwrap_or, sym, refl, ap, ◌∙◌, subst, ⊎_elim, not-suc-le-zero, arith, take-append-drop, length-take-le, take_all, drop-cons}
 use Rattle.std.specs.declared.alloc.Global.{Global}
 use Rattle.std.proofs.lemmas.Result.{err_from_is_err_and}
 use Rattle.std.proofs.lemmas.List.Sums.{fold_more}

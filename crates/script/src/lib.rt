@@ -1,4 +1,6 @@
 // Reads the words of a script's lines, and the bytes that they give.
+#![tactic(auto)]
+
 mod fault;
 mod generator;
 mod message;

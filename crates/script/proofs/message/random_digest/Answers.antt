@@ -16,9 +16,9 @@ next_bytes x k number size n bytes p q r = r ∙ (λ i. generated (p i) (q i))
 pub loop-turn-preserved : goal.loop-turn-preserved
 loop-turn-preserved c =
     let x = c.args.seed in
-    let done = 4096 * c.loop-turn.-turn in
+    let done = 4096 * c.loop-turn._turn in
     let inv = c.loop-turn.invariant in
-    let n : done + 4096 ≡ 4096 * (c.loop-turn.-turn + 1) = omega arith in
+    let n : done + 4096 ≡ 4096 * (c.loop-turn._turn + 1) = omega arith in
     let bytes = next_bytes x done _ _ 4096 _ inv.1 inv.0 c.fill.ensures.bytes in
     let number = c.fill.ensures.number ∙ (λ i. advanced (inv.1 i) (inv.0 i)) in
     (ap length bytes ∙ length-generated (advanced x done) 4096, number ∙ sym (advanced_add x done 4096) ∙ ap (advanced x) n, subst (Absorbed c.update.new.self) (ap (λ (l : List ℕ). generated x done ++ l) bytes ∙ sym (generated_add x done 4096) ∙ ap (generated x) n) (c.update.ensures _ inv.2))
@@ -31,7 +31,7 @@ rest_of x k m n bytes h e b =
 pub returns : goal.returns
 returns c =
     let x = c.args.seed in
-    let done = 4096 * c.loop-turn.-turn in
+    let done = 4096 * c.loop-turn._turn in
     let inv = c.loop-turn.invariant in
     let bytes = next_bytes x done _ _ 4096 _ inv.1 inv.0 c.fill-2.ensures.bytes in
     let all = rest_of x done (c.args.count % 4096) c.args.count _ (omega arith) (omega arith) bytes in

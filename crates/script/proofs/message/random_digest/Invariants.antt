@@ -5,4 +5,4 @@ use Rattle.script.proofs.message.random_digest.Given as goal
 
 abbrev pub invariant-loop-turn : goal.invariant-loop-turn
 invariant-loop-turn l =
-    (length l.buffer ≡ 4096) × (l.generator.number ≡ advanced l.seed (4096 * l.-turn)) × Absorbed l.hasher (generated l.seed (4096 * l.-turn))
+    (length l.buffer ≡ 4096) × (l.generator.number ≡ advanced l.seed (4096 * l._turn)) × Absorbed l.hasher (generated l.seed (4096 * l._turn))

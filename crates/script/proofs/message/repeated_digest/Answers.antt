@@ -9,8 +9,8 @@ loop-turn-init c = c.new-hasher.ensures
 
 pub loop-turn-preserved : goal.loop-turn-preserved
 loop-turn-preserved c =
-    let n : 4096 * c.loop-turn.-turn + 4096 ≡ 4096 * (c.loop-turn.-turn + 1) = omega arith in
-    subst (Absorbed c.update.new.self) (replicate-append-replicate (4096 * c.loop-turn.-turn) 4096 c.args.byte ∙ ap (λ (k : ℕ). replicate k c.args.byte) n)
+    let n : 4096 * c.loop-turn._turn + 4096 ≡ 4096 * (c.loop-turn._turn + 1) = omega arith in
+    subst (Absorbed c.update.new.self) (replicate-append-replicate (4096 * c.loop-turn._turn) 4096 c.args.byte ∙ ap (λ (k : ℕ). replicate k c.args.byte) n)
     (c.update.ensures _ c.loop-turn.invariant)
 
 -- the last bytes, fewer than the buffer has
@@ -20,5 +20,5 @@ rest_of b t m n h e =
 
 pub returns : goal.returns
 returns c =
-    let all = rest_of c.args.byte c.loop-turn.-turn (c.args.count % 4096) c.args.count (omega arith) (omega arith) in
+    let all = rest_of c.args.byte c.loop-turn._turn (c.args.count % 4096) c.args.count (omega arith) (omega arith) in
     c.finish.ensures _ (subst (Absorbed c.update-2.new.self) all (c.update-2.ensures _ c.loop-turn.invariant))

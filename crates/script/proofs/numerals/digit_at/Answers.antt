@@ -1,11 +1,11 @@
-use Rattle.std.proofs.Common.{◌≡◌, sym, refl, ap, ◌∙◌}
+use Rattle.std.proofs.Common.{sym, refl, ap, ◌∙◌}
 use Rattle.script.specs.Quotes.{quotation}
 use Rattle.script.proofs.Reading.{one_byte}
 use Rattle.script.proofs.numerals.digit_at.Goals as goal
 
-pub returns-in_ok-quoted : goal.returns-in_ok-quoted
-returns-in_ok-quoted c = (
+pub returns-in_ok-quoted-in-None : goal.returns-in_ok-quoted-in-None
+returns-in_ok-quoted-in-None c = (
   refl,
   sym c.in-None.ensures.value,
-  c.in_ok-quoted.ensures ∙ ap quotation (one_byte c.args.word.now c.args.i c.requires),
+  c.in_ok-quoted-in-None.ensures ∙ ap quotation (one_byte c.args.word.now c.args.i c.requires),
 )

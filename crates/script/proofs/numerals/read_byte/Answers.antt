@@ -1,4 +1,4 @@
-use Rattle.std.proofs.Common.{◌≡◌, sym, arith}
+use Rattle.std.proofs.Common.{sym, arith}
 use Rattle.script.proofs.Reading.{two_digits}
 use Rattle.script.proofs.numerals.read_byte.Goals as goal
 

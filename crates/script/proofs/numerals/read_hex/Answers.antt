@@ -1,6 +1,6 @@
-use Rattle.std.proofs.Common.{◌≡◌, ℕ, ◌+◌, ◌-◌, ◌*◌, ◌<◌, ◌≤◌, List, length, take, sym, ap, ◌∙◌, not-suc-le-zero, arith, take_all}
+use Rattle.std.proofs.Common.{◌≡◌, ◌+◌, ◌-◌, ◌*◌, ◌<◌, ◌≤◌, length, sym, ap, ◌∙◌, not-suc-le-zero, arith, take_all}
 use Rattle.std.proofs.lemmas.Slice.{pushed}
-use Rattle.script.specs.Numbers.{HexDigits, paired}
+use Rattle.script.specs.Numbers.{paired}
 use Rattle.script.proofs.Reading.{digits_more, digits_at, hex_exit, paired_more}
 use Rattle.script.proofs.numerals.read_hex.Goals as goal
 

@@ -1,4 +1,4 @@
-use Rattle.std.proofs.Common.{◌≡◌, ℕ, List, ◌++◌, get_or, string_bytes, sym, ap, ◌∙◌, append-nil, take_all}
+use Rattle.std.proofs.Common.{ℕ, List, ◌++◌, get_or, string_bytes, sym, ap, ◌∙◌, append-nil, take_all}
 use Rattle.script.specs.Quotes.{shown_byte, shown_bytes}
 use Rattle.script.proofs.Shown.{shown_more}
 use Rattle.script.proofs.quote.push_bytes.Goals as goal

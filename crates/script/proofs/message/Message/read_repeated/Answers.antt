@@ -1,7 +1,7 @@
-use Rattle.std.proofs.Common.{◌≡◌, ℕ, List, Ok, sym, ap, ◌∙◌, subst, inl, inr}
+use Rattle.std.proofs.Common.{ℕ, List, Ok, sym, ap, ◌∙◌, subst, inl, inr}
 use Rattle.script.specs.Lines.{first, rest}
 use Rattle.script.specs.Readings.{ByteRead, NumberBlamed}
-use Rattle.script.specs.Messages.{TwoWords, Form}
+use Rattle.script.specs.Messages.{TwoWords}
 use Rattle.script.proofs.Spelling.{number_exits}
 use Rattle.script.proofs.message.Message.read_repeated.Goals as goal
 
