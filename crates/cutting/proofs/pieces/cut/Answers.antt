@@ -10,7 +10,7 @@ use Rattle.cutting.proofs.pieces.cut.Goals as goal
 pub loop-piece-init : goal.loop-piece-init
 unfolding contents
 loop-piece-init c =
-    let is = ap (λ (s : Pieces). s.rest.now) c.into_iter-piece-iterator.ensures.into_iter-gives ∙ c.in_ok-piece-items.ensures.0 in
+    let is = ap (λ (s : Pieces). s.rest.now) c.into_iter-piece-iterator.ensures.into_iter_gives ∙ c.in_ok-piece-items.ensures.0 in
     (tt, tt, ap pieces (sym is) ∙ ap (λ (l : List (Bor (List ℕ))). contents l ++ pieces c.into_iter-piece-iterator.result.rest.now) (sym c.new-found.ensures.items))
 
 pub loop-piece-preserved : goal.loop-piece-preserved
