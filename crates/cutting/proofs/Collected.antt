@@ -21,13 +21,10 @@ one_more file s t ps p before step =
     ∙ sym (append_assoc (contents ps) (p.now ∷ []) (pieces t))
     ∙ ap (λ (l : List (List ℕ)). l ++ pieces t) (sym (contents-push ps p))
 
+-- there is no piece among none
 never_ends : {P : Type 0} (xs ys : List (List ℕ)) (x : List ℕ) → [] ≡ xs ++ (x ∷ ys) → P
-never_ends [] ys x h =
-    let clash : ◌≡◌ {A = ℕ} 0 1 = cc in
-    absurd (omega arith)
-never_ends (y ∷ xs) ys x h =
-    let clash : ◌≡◌ {A = ℕ} 0 1 = cc in
-    absurd (omega arith)
+never_ends [] ys x h = cc
+never_ends (y ∷ xs) ys x h = cc
 
 -- a file that has a piece has bytes
 pub has_bytes : (file s t : List ℕ) (ps : List (List ℕ)) (p : List ℕ) → pieces file ≡ ps ++ pieces s → pieces s ≡ p ∷ pieces t → 0 < length file

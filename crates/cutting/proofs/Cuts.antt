@@ -1,11 +1,10 @@
 -- Laws of the rule, from any number and any begun piece on.
 -- Assumes nothing.
-use Rattle.std.proofs.Common.{◌≡◌, ℕ, zero, suc, ◌+◌, ◌-◌, ◌*◌, ◌/◌, ◌%◌, ◌^◌, ◌<◌, ◌≤◌, Bool, true, false, cond, ◌&&◌, ◌||◌, eqb, leb, ◌⊎◌, List, [], ◌∷◌, ◌++◌, length, take, drop, fold, sym, refl, ap, ◌∙◌, inl, inr, ⊎_elim, append_assoc, append-nil, zero-add, add-one, arith, length-append}
+use Rattle.std.proofs.Common.{◌≡◌, ℕ, zero, suc, ◌+◌, ◌<◌, ◌≤◌, true, false, cond, ◌⊎◌, List, [], ◌∷◌, ◌++◌, length, take, drop, fold, sym, refl, ap, ◌∙◌, inl, inr, ⊎_elim, append_assoc, zero-add, arith, length-append}
 use Rattle.std.proofs.lemmas.Bool.{cases_lt, cases_Bool, lt-leb, cond-true, cond-false, cond_both}
 use Rattle.std.proofs.lemmas.List.Sums.{fold_push}
 use Rattle.cutting.specs.Rule.{next, number_after_all, ends, ended, cut_from, pieces}
-use Rattle.cutting.specs.Promise.{joined}
-use Rattle.cutting.proofs.Window.{window, folded_join}
+use Rattle.cutting.proofs.Window.{window}
 
 -- before it has 2,048 bytes no piece ends by the rule, whatever the number
 pub ends_short : (size n : ℕ) → size < 2048 → ends size n ≡ false

@@ -3,12 +3,12 @@
 use Rattle.std.proofs.Common.{◌≡◌, ℕ, ◌+◌, ◌-◌, ◌<◌, ◌≤◌, false, List, length, take, drop, fold, sym, refl, ap, ◌∙◌, inl, inr, ⊎_elim, arith, take-take, take-add}
 use Rattle.std.proofs.lemmas.Simd.{length-chunk}
 use Rattle.std.proofs.lemmas.Bool.{cases_lt}
+use Rattle.std.proofs.lemmas.List.Sums.{fold-append}
 use Rattle.cutting.specs.declared.ending.Found.TheVariants.{End, NoEnd}
 use Rattle.cutting.specs.Rule.{next, number_after_all, ends}
 use Rattle.cutting.specs.Finds.{Finds, NoEndBefore}
 use Rattle.cutting.specs.Results.{FirstPiece}
 use Rattle.cutting.proofs.Cuts.{first_piece}
-use Rattle.cutting.proofs.Window.{folded_join}
 
 -- the first piece of a file has not ended with fewer than size bytes, and after so many the number is n
 pub record Reached (file : List ℕ) (size n : ℕ) : Type 0 where
@@ -20,7 +20,7 @@ pub record Reached (file : List ℕ) (size n : ℕ) : Type 0 where
 -- the number after m more bytes
 number_on : (file : List ℕ) (size n m : ℕ) → n ≡ number_after_all (take size file) → fold next n (take m (drop size file)) ≡ number_after_all (take (size + m) file)
 number_on file size n m before =
-    let both = folded_join 0 (take size file) (take m (drop size file)) in
+    let both = fold-append next 0 (take size file) (take m (drop size file)) in
     let longer = take-add size m file in
     cc
 

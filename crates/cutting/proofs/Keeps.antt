@@ -1,11 +1,12 @@
 -- What is promised of the pieces of a file, from the laws of the rule.
 -- Assumes nothing.
-use Rattle.std.proofs.Common.{◌≡◌, ℕ, zero, suc, ◌+◌, ◌-◌, ◌/◌, ◌^◌, ◌<◌, ◌≤◌, Bool, true, false, cond, ◌&&◌, ◌||◌, eqb, leb, ◌⊎◌, List, [], ◌∷◌, ◌++◌, length, get_or, take, drop, sym, refl, ap, ◌∙◌, subst, inl, inr, ⊎_elim, append_assoc, append-nil, zero-le, arith, length-append, length-drop, length-take-le, drop-drop}
-use lib.Seq.{drop-append-le, drop-append_seam, drop-append-add}
+use Rattle.std.proofs.Common.{◌≡◌, ℕ, zero, suc, ◌+◌, ◌<◌, ◌≤◌, true, false, leb, List, [], ◌∷◌, ◌++◌, length, get_or, take, drop, sym, refl, ap, ◌∙◌, subst, ⊎_elim, append_assoc, append-nil, zero-le, arith, length-append, length-drop, length-take-le, drop-drop}
+use Rattle.std.proofs.Math.Seq.{drop-append-add}
+use Rattle.std.proofs.lemmas.List.{drop-append-le}
 use Rattle.std.proofs.lemmas.Bool.{cases_Bool, cond_both, leb-true, leb-false, or_cases, or_parts, and_parts}
 use Rattle.cutting.specs.Rule.{next, ends, ended, cut_from, pieces}
 use Rattle.cutting.specs.Promise.{joined, Sizes, From, Promise}
-use Rattle.cutting.proofs.Cuts.{after, one_byte, after_true, after_false, some_cut}
+use Rattle.cutting.proofs.Cuts.{one_byte, after_true, after_false, some_cut}
 
 joined-ended : (before : List ℕ) → joined (ended before) ≡ before
 unfolding joined ended
@@ -59,16 +60,11 @@ sizes_cut n before (b ∷ bs) h =
     let few = ends_false (length before + 1) (next n b) no in
     sizes_cut (next n b) longer bs (omega arith))
 
-never : {P : Type 0} (p : List ℕ) (ps : List (List ℕ)) → [] ≡ p ∷ ps → P
-never p ps h =
-    let clash : ◌≡◌ {A = ℕ} 0 1 = cc in
-    absurd (omega arith)
-
 -- where a piece has ended, the other pieces are those of the rest of the file
 others_are : (file : List ℕ) (firsts others : List (List ℕ)) → pieces file ≡ firsts ++ others → others ≡ pieces (drop (length (joined firsts)) file)
 unfolding joined cut_from ended
 others_are file [] others h = sym h
-others_are [] (f ∷ fs) others h = never f (fs ++ others) h
+others_are [] (f ∷ fs) others h = cc
 others_are (b ∷ bs) (f ∷ fs) others h =
     let cut = some_cut 0 [] b bs in
     let k = cut.0 in

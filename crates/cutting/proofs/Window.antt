@@ -1,8 +1,9 @@
 -- The number that goes along a file has only its last 32 bytes in it.
 -- Assumes nothing.
-use Rattle.std.proofs.Common.{◌≡◌, ℕ, zero, suc, ◌+◌, ◌-◌, ◌*◌, ◌/◌, ◌%◌, ◌^◌, ◌<◌, ◌≤◌, List, [], ◌∷◌, ◌++◌, length, take, drop, fold, sym, refl, ap, ◌∙◌, ⊎_elim, add-zero, add_assoc, mod-lt, mod-eq_of_lt, mul_assoc, mul_comm, add-mul, pow-suc, mul-one, arith, lit<, length-append, length-drop, take-append-drop, pow-add}
-use native.Mathlib.Nat.{div-add-mod, mul-add-mod_self_left, add-mod}
+use Rattle.std.proofs.Common.{◌≡◌, ℕ, suc, ◌+◌, ◌-◌, ◌*◌, ◌/◌, ◌%◌, ◌^◌, ◌<◌, ◌≤◌, List, [], ◌∷◌, ◌++◌, length, take, drop, fold, sym, ap, ◌∙◌, ⊎_elim, add-zero, add_assoc, mod-lt, mod-eq_of_lt, mul_assoc, mul_comm, add-mul, pow-suc, mul-one, arith, lit<, length-drop, take-append-drop, pow-add}
+use Rattle.std.proofs.Math.Nat.{div-add-mod, mul-add-mod_self_left}
 use Rattle.std.proofs.lemmas.Bool.{cases_lt}
+use Rattle.std.proofs.lemmas.List.Sums.{fold-append}
 use Rattle.cutting.specs.Rule.{next, number_after_all}
 
 -- what bytes add to the number after them, not reduced
@@ -51,13 +52,9 @@ settled n bs h =
 pub window : (m n : ℕ) (bs : List ℕ) → 32 ≤ length bs → fold next m bs ≡ fold next n bs
 window m n bs h = settled m bs h ∙ sym (settled n bs h)
 
-pub folded_join : (n : ℕ) (xs ys : List ℕ) → fold next n (xs ++ ys) ≡ fold next (fold next n xs) ys
-folded_join n [] ys = refl
-folded_join n (x ∷ xs) ys = folded_join (next n x) xs ys
-
 -- so the bytes before the last 32 may be left out
 pub last_bytes : (front end : List ℕ) → 32 ≤ length end → number_after_all (front ++ end) ≡ number_after_all end
-last_bytes front end h = folded_join 0 front end ∙ window (number_after_all front) 0 end h
+last_bytes front end h = fold-append next 0 front end ∙ window (number_after_all front) 0 end h
 
 pub last_32 : (bytes : List ℕ) → number_after_all (drop (length bytes - 32) bytes) ≡ number_after_all bytes
 last_32 bytes =

@@ -1,4 +1,6 @@
 // Cuts files into pieces by what stands in them.
+#![tactic(auto)]
+
 mod ending;
 mod exports;
 mod number;

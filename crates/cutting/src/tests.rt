@@ -48,7 +48,10 @@ fn zeros_are_cut(rt: HostRuntime) -> Result<(), Fail> {
     for piece in pieces {
         lengths.push(piece.len())?;
     }
-    assert!(rt; lengths.as_slice() == &[2048, 2048, 904], "one by one");
+    assert!(rt;
+        lengths.as_slice() == [2048, 2048, 904].as_slice(),
+        "one by one"
+    );
     let Ok(all) = cut(rt.alloc(), &file) else {
         return Err(Fail::new("5,000 bytes are not cut"));
     };

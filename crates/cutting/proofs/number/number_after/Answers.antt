@@ -1,15 +1,7 @@
-use Rattle.std.proofs.Common.{◌≡◌, ℕ, get_or, drop, sym, ap, ◌∙◌, take_all}
-use Rattle.std.proofs.lemmas.List.Sums.{fold_more}
-use Rattle.cutting.specs.Rule.{next, number_after_all}
+use Rattle.std.proofs.Common.{◌≡◌, ℕ, drop, ap, ◌∙◌, take_all}
+use Rattle.cutting.specs.Rule.{number_after_all}
 use Rattle.cutting.proofs.Window.{last_32, last_bytes}
 use Rattle.cutting.proofs.number.number_after.Goals as goal
-
-pub loop-byte-preserved : goal.loop-byte-preserved
-loop-byte-preserved c =
-    let step = fold_more next 0 c.split_at.result.1.now c.loop-byte.byte-index 0 c.loop-byte-test.true in
-    c.next_number-number.ensures
-    ∙ ap (λ (n : ℕ). next n (get_or c.split_at.result.1.now c.loop-byte.byte-index 0)) c.loop-byte.invariant
-    ∙ sym step
 
 pub returns : goal.returns
 returns c =

@@ -1,37 +1,32 @@
-use Rattle.std.proofs.Common.{◌≡◌, ℕ, List, [], ◌∷◌, ◌++◌, vec_items, sym, refl, ap, ◌∙◌, append-nil, Bor}
+use Rattle.std.proofs.Common.{◌≡◌, ℕ, List, [], ◌∷◌, ◌++◌, vec_items, sym, refl, ap, ◌∙◌, append-nil, Bor, arith}
+use Rattle.std.proofs.lemmas.Grind.{common_steps}
 use Rattle.std.proofs.lemmas.Slice.{pushed}
 use Rattle.cutting.specs.Rule.{cut_from, ended, pieces}
 use Rattle.cutting.specs.Results.{contents}
-use Rattle.cutting.specs.declared.pieces.Pieces.{Pieces}
 use Rattle.cutting.proofs.Collected.{has_bytes, no_memory, one_more}
 use Rattle.cutting.proofs.Keeps.{promised}
 use Rattle.cutting.proofs.pieces.cut.Goals as goal
 
 pub loop-piece-init : goal.loop-piece-init
 unfolding contents
-loop-piece-init c =
-    let is = ap (λ (s : Pieces). s.rest.now) c.into_iter-piece-iterator.ensures.into_iter-gives ∙ c.in_ok-piece-items.ensures.0 in
-    (tt, tt, ap pieces (sym is) ∙ ap (λ (l : List (Bor (List ℕ))). contents l ++ pieces c.into_iter-piece-iterator.result.rest.now) (sym c.new-found.ensures.items))
+loop-piece-init c = grind (arith, common_steps)
 
 pub loop-piece-preserved : goal.loop-piece-preserved
 loop-piece-preserved c =
     let longer : vec_items c.push.new.self ≡ vec_items c.loop-piece.found ++ (c.in-Some.piece ∷ []) =
     pushed (c.in-Some.piece ∷ []) refl c.in_ok-push.was c.push.ensures.items
-    in (
-      tt,
-      tt,
-      one_more c.args.file.now c.loop-piece.piece-iterator.rest.now c.next.new.self.rest.now (vec_items c.loop-piece.found) c.in-Some.piece c.loop-piece.invariant.2 c.in-Some.ensures.steps
-          ∙ ap (λ (l : List (Bor (List ℕ))). contents l ++ pieces c.next.new.self.rest.now) (sym longer),
-    )
+    in
+    one_more c.args.file.now c.loop-piece.piece-iterator.rest.now c.next.new.self.rest.now (vec_items c.loop-piece.found) c.in-Some.piece c.loop-piece.invariant c.in-Some.ensures.steps
+    ∙ ap (λ (l : List (Bor (List ℕ))). contents l ++ pieces c.next.new.self.rest.now) (sym longer)
 
 pub returns-in_err-push : goal.returns-in_err-push
 returns-in_err-push c =
-    let some = has_bytes c.args.file.now _ _ _ _ c.loop-piece.invariant.2 c.in-Some.ensures.steps in
+    let some = has_bytes c.args.file.now _ _ _ _ c.loop-piece.invariant c.in-Some.ensures.steps in
     no_memory c.args.file.now _ some c.in_ok-piece-items.ensures.1 c.from_residual-in_err-push.ensures.1
 
 pub returns : goal.returns
 unfolding cut_from ended
 returns c =
     let found = contents (vec_items c.loop-piece.found) in
-    let all : pieces c.args.file.now ≡ found = c.loop-piece.invariant.2 ∙ ap (λ (l : List ℕ). found ++ pieces l) c.in-None.ensures.steps.0 ∙ append-nil found in
+    let all : pieces c.args.file.now ≡ found = c.loop-piece.invariant ∙ ap (λ (l : List ℕ). found ++ pieces l) c.in-None.ensures.steps.0 ∙ append-nil found in
     (c.in_ok-piece-items.ensures.1, promised c.args.file.now found (sym all))

@@ -4,6 +4,4 @@ use Rattle.cutting.specs.Results.{contents}
 use Rattle.cutting.proofs.pieces.cut.Given as goal
 
 abbrev pub invariant-loop-piece : goal.invariant-loop-piece
-invariant-loop-piece l =
-    (goal.iterator-loop-piece).can_next l.piece-iterator × (goal.iterator-loop-piece).is_finite l.piece-iterator
-    × (pieces l.file ≡ contents (vec_items l.found) ++ pieces l.piece-iterator.rest.now)
+invariant-loop-piece l = pieces l.file ≡ contents (vec_items l.found) ++ pieces l.piece-iterator.rest.now
