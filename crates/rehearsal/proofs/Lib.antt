@@ -1,5 +1,6 @@
 mod Blanks
 mod Keeping
+mod Lists
 mod Reading
 mod Shown
 mod Spelling

@@ -1,5 +1,6 @@
 pub mod Answers
 pub mod Lines
+pub mod Listings
 pub mod Messages
 pub mod Numbers
 pub mod Quotes

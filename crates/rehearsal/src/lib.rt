@@ -3,6 +3,7 @@
 
 mod answer;
 mod fault;
+mod listing;
 mod message;
 mod numerals;
 mod pending;
@@ -10,9 +11,12 @@ mod quote;
 mod scan;
 mod step;
 mod stream;
+#[cfg(test)]
+mod tests;
 
 pub use answer::{Answer, answer_line};
 pub use fault::Fault;
+pub use listing::{Listed, list_pieces, write_lines};
 pub use message::Message;
 pub use pending::Pending;
 pub use step::Step;

@@ -1,0 +1,51 @@
+// The pieces of a file, as an answer lists them.
+ghost use Rattle.std.specs.Prelude.{Some};
+ghost use Rattle.std.specs.Fmt.{WritesOnOk};
+ghost use Rattle.rehearsal.specs.Listings.{Lists, listed_text, lines_text};
+
+use cutting::{Refusal, cut};
+use digest::{Digest, sha256};
+use std::alloc::Global;
+use std::fmt;
+
+// A piece by its length and its digest.
+#[derive(Clone, Copy)]
+pub struct Listed {
+    length: usize,
+    name: Digest,
+}
+
+impl fmt::Display for Listed {
+    ghost output = { λ p. Some (listed_text p) };
+
+    fn fmt<W: fmt::Write>(&self, f: &mut fmt::Formatter<W>) -> fmt::Result {
+        let length = self.length;
+        let name = self.name;
+        write!(f, "{length} {name}")
+    }
+}
+
+// Cuts a file and lists its pieces.
+pub fn list_pieces(heap: Global, file: &[u8]) -> Result<Vec<Listed>, Refusal>
+    ensures { Lists file.now result }
+{
+    let found = cut(heap, file)?;
+    let mut list = Vec::new(heap);
+    for piece in found.as_slice() {
+        list.push(Listed {
+            length: piece.len(),
+            name: sha256(*piece),
+        })?;
+    }
+    Ok(list)
+}
+
+// Writes a line for each piece, after what was written before.
+pub fn write_lines<W: fmt::Write>(list: &[Listed], f: &mut fmt::Formatter<W>) -> fmt::Result
+    ensures { WritesOnOk W.Write.write_str_gives f.old result (lines_text list.now) f.new }
+{
+    for piece in list {
+        write!(f, "\n{piece}")?;
+    }
+    Ok(())
+}
