@@ -1,4 +1,4 @@
-//! Links `libdigest.a` and `libcutting.a`, which `rt staticlib` writes. The
+//! Links `libdigest.a` and `libcutting.a`, which `bench/run` builds. The
 //! environment's `STATICLIB_FOLDER` names another folder that has them.
 
 use std::env;
