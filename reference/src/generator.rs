@@ -1,4 +1,4 @@
-//! The bytes of `random SEED COUNT`, as `docs/REHEARSE.md` has them: a linear
+//! The bytes of `random SEED COUNT`, as `docs/GENERATOR.md` has them: a linear
 //! congruential generator with the multiplier and the increment of Knuth's MMIX.
 
 const MULTIPLIER: u64 = 6_364_136_223_846_793_005;

@@ -2,8 +2,8 @@
 //! of the script of `rehearse`, in plain Rust. The tests compare the two
 //! programs; the benchmark measures the proved code against this one.
 //!
-//! `sha256` follows FIPS 180-4, `cutting` follows `docs/CUTTING.md`, `script` and
-//! `generator` follow `docs/REHEARSE.md`.
+//! `sha256` follows FIPS 180-4, `cutting` follows `docs/CUTTING.md`, `generator`
+//! follows `docs/GENERATOR.md`, and `script` follows `docs/REHEARSE.md`.
 
 #![forbid(unsafe_code)]
 

@@ -1,4 +1,4 @@
--- The seeded generator of docs/REHEARSE.md.
+-- The seeded generator of docs/GENERATOR.md.
 -- Assumes nothing.
 use Rattle.std.specs.Prelude.{ℕ, zero, suc, ◌+◌, ◌*◌, ◌/◌, ◌%◌, ◌^◌, List, [], ◌∷◌}
 
