@@ -5,8 +5,7 @@ ghost use Rattle.std.specs.Cmp.Lexicographic.{pointwise, slice_cmp};
 ghost use Rattle.std.specs.Cmp.Rules.{comparing};
 ghost use Rattle.std.specs.Ordering.{as_partial_cmp, nat_cmp, on};
 ghost use Rattle.std.proofs.Common.{rules};
-ghost use Rattle.digest.specs.declared.value.Digest.{Digest as AnyDigest};
-ghost use Rattle.digest.specs.Order.{order, TotalOrder};
+ghost use Rattle.digest.specs.Order.{order, TotalOrder, LibraryOrder, LibraryEquality};
 
 use std::cmp::Ordering;
 
@@ -35,7 +34,7 @@ impl PartialEq for Digest {
     ghost laws = { partial_equiv_from_equiv (Prim.search (comparing, rules)) };
 
     fn eq(&self, other: &Digest) -> bool
-        ensures answer { result ≡ on (λ (d : AnyDigest). d.bytes) (pointwise nat_eq) self.now other.now }
+        ensures answer { result ≡ pointwise nat_eq self.now.bytes other.now.bytes }
         ensures decides { Decides result (self.now ≡ other.now) }
     {
         self.bytes == other.bytes
@@ -52,7 +51,7 @@ impl PartialOrd for Digest {
     ghost laws = { partial_order_from_own_ties (Prim.search (comparing, rules)) (Prim.search (comparing, rules)) };
 
     fn partial_cmp(&self, other: &Digest) -> Option<Ordering>
-        ensures answer { result ≡ as_partial_cmp (on (λ (d : AnyDigest). d.bytes) (slice_cmp nat_cmp)) self.now other.now }
+        ensures answer { result ≡ Some (slice_cmp nat_cmp self.now.bytes other.now.bytes) }
         ensures order { result ≡ Some (order self.now.bytes other.now.bytes) }
     {
         Some(self.cmp(other))
@@ -69,14 +68,16 @@ impl Ord for Digest {
     ghost matches_eq = { Prim.search (comparing, rules) };
 
     fn cmp(&self, other: &Digest) -> Ordering
-        ensures answer { result ≡ on (λ (d : AnyDigest). d.bytes) (slice_cmp nat_cmp) self.now other.now }
+        ensures answer { result ≡ slice_cmp nat_cmp self.now.bytes other.now.bytes }
         ensures order { result ≡ order self.now.bytes other.now.bytes }
     {
         self.bytes.cmp(&other.bytes)
     }
 }
 
-// The order is total. Nothing runs here: the contract is the theorem.
+// The order is total, and what generic code is told of comparisons speaks of the same order and of equality. Nothing runs here: the contract is the theorem.
 pub fn order_is_total()
-    ensures { TotalOrder }
+    ensures total { TotalOrder }
+    ensures library_order { LibraryOrder }
+    ensures library_equality { LibraryEquality }
 {}
