@@ -7,6 +7,8 @@ mod message;
 mod numerals;
 mod quote;
 mod scan;
+#[cfg(test)]
+mod tests;
 
 pub use fault::Fault;
 pub use message::Message;
