@@ -1,3 +1,6 @@
-mod Exits
+mod Blanks
 mod Keeping
 mod Lists
+mod Reading
+mod Shown
+mod Spelling

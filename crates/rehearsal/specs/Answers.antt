@@ -4,22 +4,18 @@ use Rattle.std.specs.Prelude.{◌≡◌, ℕ, ◌+◌, ◌-◌, ◌%◌, ◌^◌
 use Rattle.digest.specs.Digests.{digest_of}
 use Rattle.rehearsal.specs.declared.answer.Answer.{Answer}
 use Rattle.rehearsal.specs.declared.answer.Answer.TheVariants as answer
-use Rattle.script.specs.declared.fault.Fault.TheVariants.{TooLong, NoMemory}
-use Rattle.script.specs.declared.message.Message.{Message}
+use Rattle.rehearsal.specs.declared.fault.Fault.TheVariants.{TooLong, NoMemory}
+use Rattle.rehearsal.specs.declared.message.Message.{Message}
 use Rattle.rehearsal.specs.declared.pending.Pending.{Pending}
 use Rattle.rehearsal.specs.declared.pending.State.{State}
 use Rattle.rehearsal.specs.declared.pending.State.TheVariants as state
 use Rattle.rehearsal.specs.declared.step.Step.TheVariants as step
-use Rattle.rehearsal.specs.Listings.{Lists}
-use Rattle.rehearsal.specs.Steps.{Passes, StepRead}
-use Rattle.script.specs.Messages.{bytes_of}
+use Rattle.rehearsal.specs.Messages.{bytes_of, Passes, StepRead}
 
--- the answer to line number n: nothing where it passes, the digest of the bytes that it stands for, the list of their pieces or why there is none, or its fault
+-- the answer to line number n: nothing where it passes, the digest of the bytes that it stands for, or its fault
 abbrev pub Answers : ℕ → List ℕ → Answer → Type 0
 Answers n l answer.Nothing = Passes l
 Answers n l (answer.Digest d) = (m : Message) × StepRead l (Ok (step.Digest m)) × (d ≡ digest_of (bytes_of m))
-Answers n l (answer.Pieces v) = (m : Message) × StepRead l (Ok (step.Cut m)) × Lists (bytes_of m) (Ok v)
-Answers n l (answer.Refused k r) = (k ≡ n) × ((m : Message) × StepRead l (Ok (step.Cut m)) × Lists (bytes_of m) (Err r))
 Answers n l (answer.Fault k f) = (k ≡ n) × StepRead l (Err f)
 
 -- a line without the carriage return that may be its last byte

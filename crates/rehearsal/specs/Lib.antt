@@ -1,4 +1,8 @@
 pub mod Answers
+pub mod Lines
 pub mod Listings
-pub mod Steps
+pub mod Messages
+pub mod Numbers
+pub mod Quotes
+pub mod Readings
 pub mod Texts

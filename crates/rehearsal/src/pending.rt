@@ -3,7 +3,7 @@ ghost use Rattle.std.specs.Prelude.{◌≡◌, ℕ, ◌+◌, ◌%◌, ◌^◌, �
 ghost use Rattle.rehearsal.specs.Answers.{chomped, LineAnswers, Holds, TakesIn};
 
 use crate::answer::{Answer, answer_line};
-use script::Fault;
+use crate::fault::Fault;
 use std::alloc::Global;
 
 // A longer line is not kept.

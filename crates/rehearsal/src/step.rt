@@ -1,7 +1,10 @@
 // A line of the script as a step to play.
-ghost use Rattle.rehearsal.specs.Steps.{StepRead};
+ghost use Rattle.rehearsal.specs.Messages.{StepRead};
 
-use script::{Fault, Message, is_word, next_word, quoted};
+use crate::fault::Fault;
+use crate::message::Message;
+use crate::quote::quoted;
+use crate::scan::{is_word, next_word};
 use std::alloc::Global;
 
 #[derive(Drop)]
@@ -10,8 +13,6 @@ pub enum Step {
     Pass,
     // the digest of these bytes
     Digest(Message),
-    // the pieces of a file of these bytes
-    Cut(Message),
 }
 
 impl Step {
@@ -26,9 +27,6 @@ impl Step {
         }
         if is_word(name, b"digest") {
             return Ok(Step::Digest(Message::read(heap, others)?));
-        }
-        if is_word(name, b"cut") {
-            return Ok(Step::Cut(Message::read(heap, others)?));
         }
         Err(Fault::UnknownStep(quoted(heap, name)?))
     }

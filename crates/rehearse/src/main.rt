@@ -1,4 +1,6 @@
 // Plays the script on standard input, and writes the answers to standard output.
+#![tactic(auto)]
+
 use rehearsal::play;
 use std::io;
 

@@ -1,0 +1,104 @@
+-- Numbers that are read digit by digit.
+-- Assumes nothing.
+use Rattle.std.proofs.Common.{◌≡◌, ℕ, ◌+◌, ◌-◌, ◌*◌, ◌%◌, ◌<◌, ◌≤◌, leb, List, [], ◌∷◌, ◌++◌, length, get_or, take, drop, is_some, IsErrAnd, Some, Ok, fold, Option, Result, Vec, unwrap_or, sym, refl, ap, ◌∙◌, subst, ⊎_elim, not-suc-le-zero, arith, take-append-drop, length-take-le, take_all, drop-cons}
+use Rattle.std.specs.declared.alloc.Global.{Global}
+use Rattle.std.proofs.lemmas.Result.{err_from_is_err_and}
+use Rattle.std.proofs.lemmas.List.Sums.{fold_more}
+use Rattle.std.proofs.lemmas.Bool.{cases_lt, and_from, le-leb}
+use Rattle.digest.proofs.Digits.{take_two}
+use Rattle.rehearsal.specs.declared.fault.Fault.{Fault}
+use Rattle.rehearsal.specs.declared.fault.Fault.TheVariants.{TooLong, NoMemory, UnknownStep, DigestForm, NoHexDigit, OddDigits, NoByte, NoCount}
+use Rattle.rehearsal.specs.Numbers.{hex_value, HexDigits, paired, DecimalDigits, decimal_value, between}
+use Rattle.rehearsal.specs.Readings.{NoDigitAt, HexBlamed, HexRead, ByteRead}
+
+-- the part of a word that is one byte
+pub one_byte : (w : List ℕ) (i : ℕ) → i < length w → take (i + 1 - i) (drop i w) ≡ get_or w i 0 ∷ []
+one_byte w i h =
+    let n : i + 1 - i ≡ 1 = omega arith in
+    ap (λ (k : ℕ). take k (drop i w)) n ∙ ap (take 1) (drop-cons w i 0 h)
+
+-- one digit more
+pub digits_more : (w : List ℕ) (i d : ℕ) → HexDigits w i → hex_value (get_or w i 0) ≡ Some d → HexDigits w (i + 1)
+digits_more w i d so_far e =
+    λ k h.
+    ⊎_elim (λ (below : k < i). so_far k below)
+    (λ (last : i ≤ k).
+    let same : k ≡ i = omega arith in
+    ap (λ (j : ℕ). is_some (hex_value (get_or w j 0))) same ∙ ap is_some e)
+    (cases_lt k i)
+
+pub digits_at : (w : List ℕ) (i j : ℕ) → i ≡ j → HexDigits w i → HexDigits w j
+digits_at w i j e h = subst (HexDigits w) e h
+
+-- the digit that is none is the first one
+blamed_at : (w : List ℕ) (i : ℕ) (f : Fault) → i < length w → HexDigits w i → NoDigitAt w i f → HexBlamed w f
+blamed_at w i TooLong h k n = n
+blamed_at w i NoMemory h k n = tt
+blamed_at w i (UnknownStep t) h k n = n
+blamed_at w i DigestForm h k n = n
+blamed_at w i (NoHexDigit t place) h k n = (i, h, k, n)
+blamed_at w i (OddDigits m) h k n = absurd n
+blamed_at w i (NoByte t) h k n = n
+blamed_at w i (NoCount t) h k n = n
+
+-- where a digit's fault is passed on
+pub hex_exit : (w : List ℕ) (i : ℕ) (f : Fault) (r : Result (Vec ℕ Global) Fault) → i < length w → HexDigits w i → NoDigitAt w i f → IsErrAnd r (λ y. y ≡ f) → HexRead w r
+hex_exit w i f r h k n e = let p = err_from_is_err_and r e in rw (p.1, p.2) (blamed_at w i f h k n)
+
+paired-push : (xs : List ℕ) (c d : ℕ) → length xs % 2 ≡ 0 → paired (xs ++ (c ∷ (d ∷ []))) ≡ paired xs ++ ((unwrap_or (hex_value c) 0 * 16 + unwrap_or (hex_value d) 0) ∷ [])
+unfolding paired
+paired-push [] c d h = refl
+paired-push (x ∷ []) c d h = absurd (omega arith)
+paired-push (x ∷ (y ∷ xs)) c d h = ap (λ (l : List ℕ). (unwrap_or (hex_value x) 0 * 16 + unwrap_or (hex_value y) 0) ∷ l) (paired-push xs c d (omega arith))
+
+-- one byte more
+pub paired_more : (w : List ℕ) (i m n : ℕ) → 2 * i + 1 < length w → hex_value (get_or w (2 * i) 0) ≡ Some m → hex_value (get_or w (2 * i + 1) 0) ≡ Some n
+    → paired (take (2 * (i + 1)) w) ≡ paired (take (2 * i) w) ++ ((m * 16 + n) ∷ [])
+paired_more w i m n h p q =
+    let fits : 2 * i ≤ length w = omega arith in
+    let long : length (take (2 * i) w) ≡ 2 * i = length-take-le (2 * i) w fits in
+    let even : length (take (2 * i) w) % 2 ≡ 0 = omega arith in
+    let a = ap (λ (o : Option ℕ). unwrap_or o 0) p in
+    let b = ap (λ (o : Option ℕ). unwrap_or o 0) q in
+    ap paired (take_two w i h) ∙ paired-push (take (2 * i) w) (get_or w (2 * i) 0) (get_or w (2 * i + 1) 0) even
+    ∙ (λ j. paired (take (2 * i) w) ++ ((a j * 16 + b j) ∷ []))
+
+-- a word of two digits
+pub two_digits : (w : List ℕ) (m n : ℕ) → length w ≡ 2 → hex_value (get_or w 0 0) ≡ Some m → hex_value (get_or w 1 0) ≡ Some n → ByteRead w (Ok (m * 16 + n))
+unfolding paired
+two_digits w m n l p q =
+    let both = digits_more w 1 n (digits_more w 0 m (λ k h. absurd (not-suc-le-zero h)) p) q in
+    let all = ap paired (sym (take_all 2 w (omega arith))) ∙ paired_more w 0 m n (omega arith) p q in
+    (l, both, all)
+
+-- decimal digits
+pub decimals_more : (w : List ℕ) (i : ℕ) → DecimalDigits w i → 48 ≤ get_or w i 0 → get_or w i 0 ≤ 57 → DecimalDigits w (i + 1)
+decimals_more w i so_far low high =
+    let e = and_from (leb 48 (get_or w i 0)) (leb (get_or w i 0) 57) (le-leb 48 (get_or w i 0) low) (le-leb (get_or w i 0) 57 high) in
+    λ k h.
+    ⊎_elim (λ (below : k < i). so_far k below)
+    (λ (last : i ≤ k).
+    let same : k ≡ i = omega arith in
+    ap (λ (j : ℕ). between 48 57 (get_or w j 0)) same ∙ e)
+    (cases_lt k i)
+
+abbrev step : ℕ → ℕ → ℕ
+step n c = n * 10 + (c - 48)
+
+grows : (n : ℕ) (w : List ℕ) → n ≤ fold step n w
+grows n [] = omega arith
+grows n (c ∷ w) = let ih = grows (n * 10 + (c - 48)) w in omega arith
+
+folded-append : (n : ℕ) (xs ys : List ℕ) → fold step n (xs ++ ys) ≡ fold step (fold step n xs) ys
+folded-append n [] ys = refl
+folded-append n (x ∷ xs) ys = folded-append (n * 10 + (x - 48)) xs ys
+
+-- digits that follow do not make a number smaller
+pub decimal_front : (w : List ℕ) (i : ℕ) → decimal_value (take i w) ≤ decimal_value w
+decimal_front w i =
+    let whole : decimal_value w ≡ fold step (decimal_value (take i w)) (drop i w) = ap (fold step 0) (sym (take-append-drop i w)) ∙ folded-append 0 (take i w) (drop i w) in
+    let more = grows (decimal_value (take i w)) (drop i w) in
+    omega arith
+
+pub decimal_more : (w : List ℕ) (i : ℕ) → i < length w → decimal_value (take (i + 1) w) ≡ decimal_value (take i w) * 10 + (get_or w i 0 - 48)
+decimal_more w i h = fold_more step 0 w i 0 h

@@ -1,0 +1,62 @@
+// Why a line is not played, in the words of its answer.
+ghost use Rattle.std.specs.Prelude.{◌≡◌, Some};
+ghost use Rattle.rehearsal.specs.declared.fault.Fault.TheVariants.{NoMemory};
+ghost use Rattle.rehearsal.specs.Texts.{fault_text};
+
+use std::alloc::{AllocError, AllocFailed};
+use std::fmt;
+
+#[derive(Drop)]
+pub enum Fault {
+    // the line is longer than a line may be
+    TooLong,
+    // there was no memory for the line or for what it asks
+    NoMemory,
+    // no step has this name
+    UnknownStep(String),
+    // not the words that `digest` takes
+    DigestForm,
+    // this is not a hexadecimal digit, at this place
+    NoHexDigit(String, usize),
+    // so many hexadecimal digits, an odd number
+    OddDigits(usize),
+    // this is not a byte of two hexadecimal digits
+    NoByte(String),
+    // this is not a count, or too large
+    NoCount(String),
+}
+
+impl From<AllocError> for Fault {
+    ghost from_gives = { λ _ r. r ≡ NoMemory };
+
+    fn from(_e: AllocError) -> Fault {
+        Fault::NoMemory
+    }
+}
+
+impl<T: Drop> From<AllocFailed<T>> for Fault {
+    ghost from_gives = { λ _ r. r ≡ NoMemory };
+
+    fn from(_e: AllocFailed<T>) -> Fault {
+        Fault::NoMemory
+    }
+}
+
+impl fmt::Display for Fault {
+    ghost output = { λ f. Some (fault_text f) };
+
+    fn fmt<W: fmt::Write>(&self, f: &mut fmt::Formatter<W>) -> fmt::Result {
+        match self {
+            Fault::TooLong => write!(f, "longer than 67108864 bytes"),
+            Fault::NoMemory => write!(f, "there is not enough memory"),
+            Fault::UnknownStep(word) => write!(f, "no step is called {word}"),
+            Fault::DigestForm => write!(f, "write 'digest HEX' or 'digest repeat BYTE COUNT'"),
+            Fault::NoHexDigit(word, place) => {
+                write!(f, "{word} is not a hexadecimal digit, at place {place}")
+            }
+            Fault::OddDigits(count) => write!(f, "an odd number of hexadecimal digits, {count}"),
+            Fault::NoByte(word) => write!(f, "{word} is not a byte of two hexadecimal digits"),
+            Fault::NoCount(word) => write!(f, "{word} is not a number from 0 to 1073741824"),
+        }
+    }
+}
