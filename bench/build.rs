@@ -1,4 +1,4 @@
-//! Links `libdigest.a` and `libcutting.a`, which `bench/run` builds. The
+//! Links `libdigest.a` and `libcutting.a`, which `tools/staticlibs` builds. The
 //! environment's `STATICLIB_FOLDER` names another folder that has them.
 
 use std::env;
