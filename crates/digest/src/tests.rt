@@ -27,11 +27,11 @@ fn text_reads_back(rt: HostRuntime) -> Result<(), Fail> {
 #[test]
 fn bytes_decide_the_order(rt: HostRuntime) {
     let mut bytes = [7u8; 32];
-    let low = Digest::new(bytes);
+    let low = Digest::from(bytes);
     bytes[31] = 8;
-    let more = Digest::new(bytes);
+    let more = Digest::from(bytes);
     bytes[0] = 6;
-    let less = Digest::new(bytes);
+    let less = Digest::from(bytes);
     assert!(rt; low < more && less < low && !(low < low), "order");
     assert!(rt; low == low && low != more, "equality");
 }
