@@ -1,7 +1,7 @@
 use Rattle.std.proofs.Common.{length, sym, ap, ◌∙◌, eq-eqb}
 use Rattle.digest.specs.declared.value.Digest.{Digest}
 use Rattle.digest.specs.Digests.{digest_of}
-use Rattle.digest.proofs.exports.zeltuva_sha256.Goals as goal
+use Rattle.digest_c.proofs.zeltuva_sha256.Goals as goal
 
 pub returns : goal.returns
 unfolding digest_of
