@@ -21,5 +21,8 @@ pub fn sha256_parts(parts: &[&[u8]]) -> Digest
 pub fn sha256_each(heap: Global, messages: &[&[u8]]) -> Result<Vec<Digest>, AllocError>
     ensures { IfOk result (λ v. v.items ≡ digest_of_each messages.now) }
 {
-    messages.iter().map(|message| sha256(*message)).collect(heap)
+    messages
+        .iter()
+        .map(|message| sha256(*message))
+        .collect(heap)
 }
