@@ -79,7 +79,8 @@ impl fmt::Display for Digest {
 
     fn fmt<W: fmt::Write>(&self, f: &mut fmt::Formatter<W>) -> fmt::Result {
         let digits = self.digits();
-        f.pad(from_utf8(&digits).unwrap())
+        let text = from_utf8(&digits).unwrap();
+        f.pad(text)
     }
 }
 
