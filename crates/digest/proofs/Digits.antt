@@ -1,71 +1,86 @@
--- The hexadecimal digits of bytes, written and read one byte after another.
+-- The hexadecimal digits of bytes, two by two.
 -- Assumes nothing.
-use Rattle.std.proofs.Common.{◌≡◌, ℕ, zero, suc, ◌+◌, ◌*◌, ◌/◌, ◌%◌, ◌<◌, List, [], ◌∷◌, ◌++◌, length, get_or, take, set, replicate, IsAscii, sym, refl, ap, ◌∙◌, append_assoc, not-suc-le-zero, arith, lit<, length-set, take-suc-set}
+use Rattle.std.proofs.Common.{◌≡◌, ℕ, zero, suc, ◌+◌, ◌*◌, ◌/◌, ◌%◌, ◌<◌, List, [], ◌∷◌, ◌++◌, length, get_or, take, drop, IsAscii, refl, ap, ◌∙◌, append_assoc, not-suc-le-zero, arith, length-drop}
+use Rattle.std.specs.List.{flat_map}
+use Rattle.std.specs.Simd.{first_chunks}
 use Rattle.std.proofs.lemmas.Str.Ascii.{IsAscii-nil, IsAscii-cons}
 use Rattle.std.proofs.lemmas.Bool.Decides.{nat_tests}
-use Rattle.std.proofs.lemmas.List.{take_more, take_more_set}
-use Rattle.digest.specs.Hex.{digit, hex}
+use Rattle.std.proofs.lemmas.List.{take_more, take-append-drop}
+use Rattle.std.specs.Prelude.{Result, IsErr}
+use Rattle.std.proofs.lemmas.Result.{IfOk-from_err}
+use Rattle.digest.specs.declared.hex.NotADigest.{NotADigest}
+use Rattle.digest.specs.declared.value.Digest.{Digest}
+use Rattle.digest.specs.Hex.{digit, hex, Reads, Whole}
 
 -- two numbers below 16 with one digit are one
-pub digit_same : (m n : ℕ) → m < 16 → n < 16 → digit m ≡ digit n → m ≡ n
+digit_same : (m n : ℕ) → m < 16 → n < 16 → digit m ≡ digit n → m ≡ n
 digit_same m n hm hn e = grind (arith, nat_tests)
 
-pub zeros_ascii : (n : ℕ) → IsAscii (replicate n 48)
-zeros_ascii zero = IsAscii-nil
-zeros_ascii (suc n) = IsAscii-cons 48 (replicate n 48) (lit< tt) (zeros_ascii n)
+ascii_append : (xs ys : List ℕ) → IsAscii xs → IsAscii ys → IsAscii (xs ++ ys)
+ascii_append [] ys first second = second
+ascii_append (x ∷ xs) ys first second = IsAscii-cons x (xs ++ ys) (first 0) (ascii_append xs ys (λ i. first (suc i)) second)
+
+pub ascii_joined : (pairs : List (List ℕ)) → ((i : ℕ) → i < length pairs → IsAscii (get_or pairs i [])) → IsAscii (flat_map (λ p. p) pairs)
+ascii_joined [] each = IsAscii-nil
+ascii_joined (p ∷ pairs) each = ascii_append p (flat_map (λ p. p) pairs) (each 0 (omega arith)) (ascii_joined pairs (λ i below. each (suc i) (omega arith)))
 
 pub length-hex : (bs : List ℕ) → length (hex bs) ≡ 2 * length bs
 unfolding hex
 length-hex [] = refl
 length-hex (b ∷ bs) = let ih = length-hex bs in omega arith
 
--- the digits of byte i
-pub hex_high : (bs : List ℕ) (i : ℕ) → i < length bs → get_or (hex bs) (2 * i) 0 ≡ digit (get_or bs i 0 / 16)
+-- the pair of a number's two digits
+pub two_digits : (pair : List ℕ) (m n : ℕ) → length pair ≡ 2 → m < 16 → n < 16 → get_or pair 0 0 ≡ digit m → get_or pair 1 0 ≡ digit n → pair ≡ hex ((m * 16 + n) ∷ [])
 unfolding hex
-hex_high [] i h = absurd (not-suc-le-zero h)
-hex_high (b ∷ bs) zero h = refl
-hex_high (b ∷ bs) (suc i) h =
-    let below : i < length bs = omega arith in
-    let e : 2 * suc i ≡ suc (suc (2 * i)) = omega arith in
-    rw e (hex_high bs i below)
+two_digits [] m n l hm hn p q = absurd (omega arith)
+two_digits (c ∷ []) m n l hm hn p q = absurd (omega arith)
+two_digits (c ∷ (d ∷ (e ∷ pair))) m n l hm hn p q = absurd (omega arith)
+two_digits (c ∷ (d ∷ [])) m n l hm hn p q =
+    let high : (m * 16 + n) / 16 ≡ m = omega arith in
+    let low : (m * 16 + n) % 16 ≡ n = omega arith in
+    rw (high, low) (λ i. p i ∷ (q i ∷ []))
 
-pub hex_low : (bs : List ℕ) (i : ℕ) → i < length bs → get_or (hex bs) (2 * i + 1) 0 ≡ digit (get_or bs i 0 % 16)
+-- the digits of each byte, joined
+pub joined_digits : (bs : List ℕ) (pairs : List (List ℕ)) → length pairs ≡ length bs → ((i : ℕ) → i < length bs → get_or pairs i [] ≡ hex (get_or bs i 0 ∷ [])) → flat_map (λ p. p) pairs ≡ hex bs
 unfolding hex
-hex_low [] i h = absurd (not-suc-le-zero h)
-hex_low (b ∷ bs) zero h = refl
-hex_low (b ∷ bs) (suc i) h =
-    let below : i < length bs = omega arith in
-    let e : 2 * suc i + 1 ≡ suc (suc (2 * i + 1)) = omega arith in
-    rw e (hex_low bs i below)
+joined_digits [] [] e each = refl
+joined_digits [] (p ∷ pairs) e each = absurd (omega arith)
+joined_digits (b ∷ bs) [] e each = absurd (omega arith)
+joined_digits (b ∷ bs) (p ∷ pairs) e each =
+    let rest = joined_digits bs pairs (omega arith) (λ i below. each (suc i) (omega arith)) in
+    λ i. each 0 (omega arith) i ++ rest i
 
--- one byte more
-hex-push : (bs : List ℕ) (b : ℕ) → hex (bs ++ (b ∷ [])) ≡ hex bs ++ (digit (b / 16) ∷ (digit (b % 16) ∷ []))
+-- and cut into pairs again
+digits_cut : (bs : List ℕ) (i : ℕ) (d : List ℕ) → i < length bs → get_or (first_chunks 2 (length bs) (hex bs)) i d ≡ hex (get_or bs i 0 ∷ [])
 unfolding hex
-hex-push [] b = refl
-hex-push (x ∷ bs) b = ap (λ (l : List ℕ). digit (x / 16) ∷ (digit (x % 16) ∷ l)) (hex-push bs b)
+digits_cut [] i d below = absurd (not-suc-le-zero below)
+digits_cut (b ∷ bs) zero d below = refl
+digits_cut (b ∷ bs) (suc i) d below = digits_cut bs i d (omega arith)
 
-hex_more : (bs : List ℕ) (i : ℕ) → i < length bs → hex (take (i + 1) bs) ≡ hex (take i bs) ++ (digit (get_or bs i 0 / 16) ∷ (digit (get_or bs i 0 % 16) ∷ []))
-hex_more bs i h = ap hex (take_more bs i 0 h) ∙ hex-push (take i bs) (get_or bs i 0)
+pub pair_at : (text bs : List ℕ) (pairs : List (List ℕ)) → pairs ≡ first_chunks 2 (length text / 2) text → text ≡ hex bs → (i : ℕ) (d : List ℕ) → i < length bs → get_or pairs i d ≡ hex (get_or bs i 0 ∷ [])
+pair_at text bs pairs cut e i d below =
+    let half : length text / 2 ≡ length bs = omega (arith, ap length e, length-hex bs) in
+    ap (λ (l : List (List ℕ)). get_or l i d) (cut ∙ (λ j. first_chunks 2 (half j) (e j))) ∙ digits_cut bs i d below
 
--- two writes, one after the other
-write_two : (text : List ℕ) (i d e : ℕ) → 2 * i + 1 < length text → take (2 * (i + 1)) (set (set text (2 * i) d) (2 * i + 1) e) ≡ take (2 * i) text ++ (d ∷ (e ∷ []))
-write_two text i d e h =
-    let n : 2 * (i + 1) ≡ suc (2 * i + 1) = omega arith in
-    let k : 2 * i + 1 ≡ suc (2 * i) = omega arith in
-    let first : 2 * i < length text = omega arith in
-    let second : 2 * i + 1 < length (set text (2 * i) d) = rw length-set h in
-    ap (λ (j : ℕ). take j (set (set text (2 * i) d) (2 * i + 1) e)) n
-    ∙ take-suc-set (set text (2 * i) d) (2 * i + 1) e second
-    ∙ ap (λ (l : List ℕ). l ++ (e ∷ [])) (ap (λ (j : ℕ). take j (set text (2 * i) d)) k ∙ take-suc-set text (2 * i) d first)
-    ∙ append_assoc (take (2 * i) text) (d ∷ []) (e ∷ [])
+pub joined_pairs : (k : ℕ) (text : List ℕ) → length text ≡ 2 * k → flat_map (λ p. p) (first_chunks 2 k text) ≡ text
+joined_pairs zero [] l = refl
+joined_pairs zero (c ∷ text) l = absurd (omega arith)
+joined_pairs (suc k) text l = ap (λ (rest : List ℕ). take 2 text ++ rest) (joined_pairs k (drop 2 text) (omega (arith, length-drop 2 text))) ∙ take-append-drop 2 text
 
--- the digits of one byte more are written
-pub written_more : (bs text : List ℕ) (i d e : ℕ) → i < length bs → 2 * i + 1 < length text → d ≡ digit (get_or bs i 0 / 16) → e ≡ digit (get_or bs i 0 % 16)
-    → take (2 * i) text ≡ hex (take i bs) → take (2 * (i + 1)) (set (set text (2 * i) d) (2 * i + 1) e) ≡ hex (take (i + 1) bs)
-written_more bs text i d e h k p q so_far =
-    let w = write_two text i d e k in
-    let m = hex_more bs i h in
-    cc
+-- as many bytes with the same digits are the same
+pub same_digits : (xs ys : List ℕ) → length xs ≡ length ys → ((i : ℕ) → i < length xs → get_or xs i 0 < 256) → ((i : ℕ) → get_or ys i 0 < 256) → hex xs ≡ hex ys → xs ≡ ys
+unfolding hex
+same_digits [] [] l fx fy e = refl
+same_digits [] (y ∷ ys) l fx fy e = absurd (omega arith)
+same_digits (x ∷ xs) [] l fx fy e = absurd (omega arith)
+same_digits (x ∷ xs) (y ∷ ys) l fx fy e =
+    let x_fits : x < 256 = fx 0 (omega arith) in
+    let y_fits : y < 256 = fy 0 in
+    let high = digit_same (x / 16) (y / 16) (omega arith) (omega arith) (ap (λ (t : List ℕ). get_or t 0 0) e) in
+    let low = digit_same (x % 16) (y % 16) (omega arith) (omega arith) (ap (λ (t : List ℕ). get_or t 1 0) e) in
+    let first : x ≡ y = omega arith in
+    let rest = same_digits xs ys (omega arith) (λ i below. fx (suc i) (omega arith)) (λ i. fy (suc i)) (ap (drop 2) e) in
+    λ i. first i ∷ rest i
 
 -- two elements more of a list
 pub take_two : (text : List ℕ) (i : ℕ) → 2 * i + 1 < length text → take (2 * (i + 1)) text ≡ take (2 * i) text ++ (get_or text (2 * i) 0 ∷ (get_or text (2 * i + 1) 0 ∷ []))
@@ -77,25 +92,6 @@ take_two text i h =
     ∙ ap (λ (l : List ℕ). l ++ (get_or text (2 * i + 1) 0 ∷ [])) (take_more text (2 * i) 0 first)
     ∙ append_assoc (take (2 * i) text) (get_or text (2 * i) 0 ∷ []) (get_or text (2 * i + 1) 0 ∷ [])
 
--- one byte more is read
-pub read_more : (bs text : List ℕ) (i m n : ℕ) → i < length bs → 2 * i + 1 < length text → m < 16 → n < 16 → get_or text (2 * i) 0 ≡ digit m → get_or text (2 * i + 1) 0 ≡ digit n
-    → take (2 * i) text ≡ hex (take i bs) → take (2 * (i + 1)) text ≡ hex (take (i + 1) (set bs i (m * 16 + n)))
-read_more bs text i m n h k hm hn p q so_far =
-    let high : (m * 16 + n) / 16 ≡ m = omega arith in
-    let low : (m * 16 + n) % 16 ≡ n = omega arith in
-    let t = take_two text i k in
-    let pushed = ap hex (take_more_set bs i (m * 16 + n) h) ∙ hex-push (take i bs) (m * 16 + n) in
-    let a = ap digit high in
-    let b = ap digit low in
-    cc
-
--- and it is that of every digest that is written so
-pub same_more : (bs text ds : List ℕ) (i m n : ℕ) → i < length bs → i < length ds → get_or ds i 0 < 256 → m < 16 → n < 16 → get_or text (2 * i) 0 ≡ digit m → get_or text (2 * i + 1) 0 ≡ digit n
-    → text ≡ hex ds → take i bs ≡ take i ds → take (i + 1) (set bs i (m * 16 + n)) ≡ take (i + 1) ds
-same_more bs text ds i m n h k fits hm hn p q e so_far =
-    let high = digit_same m (get_or ds i 0 / 16) hm (omega arith) (sym p ∙ ap (λ (l : List ℕ). get_or l (2 * i) 0) e ∙ hex_high ds i k) in
-    let low = digit_same n (get_or ds i 0 % 16) hn (omega arith) (sym q ∙ ap (λ (l : List ℕ). get_or l (2 * i + 1) 0) e ∙ hex_low ds i k) in
-    let byte : m * 16 + n ≡ get_or ds i 0 = omega arith in
-    let s = take_more_set bs i (m * 16 + n) h in
-    let t = take_more ds i 0 k in
-    cc
+-- a refusal is right where no digest has these digits
+pub refused : (text : List ℕ) (r : Result Digest NotADigest) → IsErr r → ((d : Digest) → Whole d → text ≡ hex d.bytes → ⊥) → Reads text r
+refused text r err none = record { only = IfOk-from_err r _ err; back = λ d w e. absurd (none d w e) }

@@ -5,4 +5,3 @@ pub mod Digits
 pub mod Order
 mod Padding
 mod Schedule
-mod Several

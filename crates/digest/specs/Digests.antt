@@ -1,7 +1,8 @@
 -- Digests of messages.
 -- Assumes nothing.
-use Rattle.std.specs.Prelude.{ℕ, List, [], ◌∷◌, ◌++◌}
+use Rattle.std.specs.Prelude.{ℕ, List, map}
 use Rattle.std.specs.Borrow.{Bor}
+use Rattle.std.specs.List.{flat_map}
 use Rattle.digest.specs.declared.value.Digest.{Digest}
 use Rattle.digest.specs.Sha256.{sha256}
 
@@ -10,11 +11,9 @@ unfoldable pub digest_of : List ℕ → Digest
 digest_of m = record { bytes = sha256 m }
 
 -- the message that lies in several slices, one after the other
-unfoldable pub joined : List (Bor (List ℕ)) → List ℕ
-joined [] = []
-joined (p ∷ ps) = p.now ++ joined ps
+abbrev pub joined : List (Bor (List ℕ)) → List ℕ
+joined ps = flat_map (λ p. p.now) ps
 
 -- the digest of each of several messages, in their order
-unfoldable pub digest_of_each : List (Bor (List ℕ)) → List Digest
-digest_of_each [] = []
-digest_of_each (p ∷ ps) = digest_of p.now ∷ digest_of_each ps
+abbrev pub digest_of_each : List (Bor (List ℕ)) → List Digest
+digest_of_each ms = map (λ m. digest_of m.now) ms

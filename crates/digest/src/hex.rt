@@ -1,5 +1,5 @@
 // A digest written as 64 lowercase hexadecimal digits, and read back from them.
-ghost use Rattle.std.specs.Prelude.{◌≡◌, ◌%◌, ◌<◌, Some, IsAscii, MatchOption, ◌≢◌};
+ghost use Rattle.std.specs.Prelude.{◌≡◌, ◌%◌, ◌<◌, Some, IsAscii, MatchResult, ◌≢◌, [], ◌∷◌};
 ghost use Rattle.digest.specs.Hex.{digit, hex, Reads};
 
 use crate::value::Digest;
@@ -7,10 +7,10 @@ use std::fmt;
 use std::str::{FromStr, from_utf8};
 
 // A text that is not the 64 digits of a digest.
-#[derive(Clone, Copy, Debug)]
+#[derive(Clone, Copy, Debug, PartialEq, Eq)]
 pub struct NotADigest;
 
-// The digit, in ASCII, of the lowest four bits of a number.
+// The digit, in ASCII, of the lowest four bits of a number. By hand, since char::from_digit answers an Option of a char, to be unwrapped and cast.
 pub fn hex_digit(n: u8) -> u8
     ensures value { result ≡ digit (n % 16) }
     ensures ascii { result < 128 }
@@ -23,15 +23,31 @@ pub fn hex_digit(n: u8) -> u8
     }
 }
 
-// The number whose digit c is, if there is one.
-fn value_of(c: u8) -> Option<u8>
-    ensures { MatchOption result ((n : _) → n < 16 → c ≢ digit n) (λ n. (n < 16) × (c ≡ digit n)) }
+// The number whose digit c is, or a refusal. By hand, since char::to_digit takes capitals too.
+fn value_of(c: u8) -> Result<u8, NotADigest>
+    ensures { MatchResult result (λ n. (n < 16) × (c ≡ digit n)) (λ _. (n : _) → n < 16 → c ≢ digit n) }
 {
     match c {
-        b'0'..=b'9' => Some(c - b'0'),
-        b'a'..=b'f' => Some(c - b'a' + 10),
-        _ => None,
+        b'0'..=b'9' => Ok(c - b'0'),
+        b'a'..=b'f' => Ok(c - b'a' + 10),
+        _ => Err(NotADigest),
     }
+}
+
+// The two digits of a byte, in ASCII.
+fn pair_of(byte: u8) -> [u8; 2]
+    ensures value { result ≡ hex (byte ∷ []) }
+    ensures ascii { IsAscii result }
+{
+    [hex_digit(byte / 16), hex_digit(byte)]
+}
+
+// The byte whose two digits a pair is, or a refusal.
+fn byte_of(pair: [u8; 2]) -> Result<u8, NotADigest>
+    ensures { MatchResult result (λ byte. (byte < 256) × (pair ≡ hex (byte ∷ []))) (λ _. (byte : _) → byte < 256 → pair ≢ hex (byte ∷ [])) }
+{
+    let [high, low] = pair;
+    Ok(value_of(high)? * 16 + value_of(low)?)
 }
 
 impl Digest {
@@ -40,12 +56,8 @@ impl Digest {
         ensures value { result ≡ hex self.now.bytes }
         ensures ascii { IsAscii result }
     {
-        let bytes = self.bytes;
-        let mut text = [b'0'; 64];
-        for i in 0..32 {
-            text[2 * i] = hex_digit(bytes[i] / 16);
-            text[2 * i + 1] = hex_digit(bytes[i]);
-        }
+        let mut text = [0; 64];
+        text.copy_from_slice(self.bytes.map(pair_of).as_flattened());
         text
     }
 
@@ -53,19 +65,11 @@ impl Digest {
     pub fn read(text: &[u8]) -> Result<Digest, NotADigest>
         ensures { Reads text.now result }
     {
-        if text.len() != 64 {
+        let (pairs, []) = text.as_chunks::<2>() else {
             return Err(NotADigest);
-        }
-        let mut bytes = [0u8; 32];
-        for i in 0..32 {
-            let Some(high) = value_of(text[2 * i]) else {
-                return Err(NotADigest);
-            };
-            let Some(low) = value_of(text[2 * i + 1]) else {
-                return Err(NotADigest);
-            };
-            bytes[i] = high * 16 + low;
-        }
+        };
+        let pairs = pairs.as_array::<32>().ok_or(NotADigest)?;
+        let bytes = pairs.try_map(byte_of)?;
         Ok(Digest { bytes })
     }
 }
@@ -75,10 +79,8 @@ impl fmt::Display for Digest {
 
     fn fmt<W: fmt::Write>(&self, f: &mut fmt::Formatter<W>) -> fmt::Result {
         let digits = self.digits();
-        match from_utf8(&digits) {
-            Ok(text) => f.pad(text),
-            Err(_) => unreachable!(),
-        }
+        let text = from_utf8(&digits).unwrap();
+        f.pad(text)
     }
 }
 

@@ -4,7 +4,6 @@
 mod compress;
 mod constants;
 mod examples;
-mod exports;
 mod functions;
 mod hasher;
 mod hex;
@@ -15,7 +14,6 @@ mod value;
 mod words;
 
 pub use examples::worked_examples;
-pub use exports::zeltuva_sha256;
 pub use hasher::{Hasher, sha256};
 pub use hex::{NotADigest, hex_digit};
 pub use many::{sha256_each, sha256_parts};

@@ -21,9 +21,8 @@ pub fn sha256_parts(parts: &[&[u8]]) -> Digest
 pub fn sha256_each(heap: Global, messages: &[&[u8]]) -> Result<Vec<Digest>, AllocError>
     ensures { IfOk result (λ v. v.items ≡ digest_of_each messages.now) }
 {
-    let mut digests = Vec::with_capacity(heap, messages.len())?;
-    for message in messages {
-        digests.push(sha256(*message))?;
-    }
-    Ok(digests)
+    messages
+        .iter()
+        .map(|message| sha256(*message))
+        .collect(heap)
 }

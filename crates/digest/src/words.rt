@@ -28,6 +28,6 @@ impl Words {
         for i in 0..8 {
             bytes[4 * i..4 * i + 4].copy_from_slice(&words[i].to_be_bytes());
         }
-        Digest::new(bytes)
+        Digest::from(bytes)
     }
 }

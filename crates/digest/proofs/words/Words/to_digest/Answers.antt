@@ -22,4 +22,4 @@ returns c =
     let e : c.loop-i.i ≡ 8 = omega arith in
     let h = c.loop-i.invariant.0 in
     let short : length c.loop-i.bytes ≤ 32 = omega arith in
-    ap (λ (b : List ℕ). record { bytes = b }) (c.new.ensures ∙ sym (take_all 32 c.loop-i.bytes short) ∙ (rw e at h))
+    ap (λ (b : List ℕ). record { bytes = b }) (c.from.ensures ∙ sym (take_all 32 c.loop-i.bytes short) ∙ (rw e at h))
