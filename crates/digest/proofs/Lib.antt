@@ -2,7 +2,9 @@ mod Absorbing
 mod BigEndian
 mod Blocks
 pub mod Digits
+mod Chunks
+mod Filling
 pub mod Order
 mod Padding
-mod Schedule
+mod Rounds
 mod Several

@@ -63,7 +63,7 @@ impl Hasher {
         self.update(&[0x80]);
         self.update(&[0; 64][0..zeros]);
         self.update(&bits.to_be_bytes());
-        self.value.to_digest()
+        Digest::from(self.value)
     }
 }
 

@@ -14,4 +14,4 @@ returns c =
     let zeros = first_zeros ((119 - c.args.self.length % 64) % 64) (gap (length m)) (omega arith) (omega arith) in
     let end = c.to_be_bytes.ensures ∙ eight_bytes (length m) c.args.self.length size in
     let value = absorbed_whole c.update-3.new.self (padded m) (padded_whole m) (absorbed_padded c.update-3.new.self m _ _ zeros end padding) in
-    c.to_digest.ensures ∙ ap (λ (v : Words). record { bytes = joined_words v }) value
+    c.from.ensures ∙ ap (λ (v : Words). record { bytes = joined_words v }) value

@@ -1,11 +1,9 @@
--- The message schedule in an array of 64 words, filled from the front while the rounds go on.
+-- The message schedule in an array of 64 words, filled from the front.
 -- Assumes nothing.
 use Rattle.std.proofs.Common.{◌≡◌, ℕ, zero, suc, ◌+◌, ◌-◌, ◌<◌, ◌≤◌, List, [], ◌∷◌, ◌++◌, length, get_or, take, set, sym, refl, ap, ◌∙◌, subst, ⊎_elim, not-suc-le-zero, add-one, arith, get_or-take, get_or-set_same, take-suc-set}
 use Rattle.std.proofs.lemmas.List.{length_push, get_or_push, get_or_append_left}
 use Rattle.std.proofs.lemmas.Bool.{cases_lt, lt-ltb}
-use Rattle.digest.specs.declared.words.Words.{Words}
-use Rattle.digest.specs.Compressing.{Reached}
-use Rattle.digest.specs.Sha256.{K, Wt, longer, schedule, round, rounds}
+use Rattle.digest.specs.Sha256.{Wt, longer, schedule}
 
 -- a word of the schedule depends on words before it alone
 Wt-take : (t : ℕ) (b w : List ℕ) → Wt t b (take t w) ≡ Wt t b w
@@ -40,24 +38,14 @@ schedule_at (suc n) t b h =
     get_or_push (schedule n b) (Wt n b (schedule n b)) 0 t (length-schedule n b ∙ e) ∙ ap (λ (k : ℕ). Wt k b (schedule k b)) e)
     (cases_lt t n)
 
--- nothing is done yet
-pub reached_none : (h : Words) (b w : List ℕ) → Reached h b 0 h w
-unfolding schedule rounds
-reached_none h b w = record { words = refl; value = refl }
-
--- a word is filled in, and a round done with it
-pub reached_more : (h v r : Words) (b w filled : List ℕ) (t : ℕ) → t < 64 → length w ≡ 64 → filled ≡ set w t (Wt t b w) → r ≡ round v (get_or K t 0) (get_or filled t 0) → Reached h b t v w
-    → Reached h b (t + 1) r filled
-unfolding schedule longer rounds
-reached_more h v r b w filled t below long put done so_far =
+-- a word is filled in
+pub filled_more : (b w filled : List ℕ) (t : ℕ) → t < 64 → length w ≡ 64 → take t w ≡ schedule t b → filled ≡ set w t (Wt t b w) → take (t + 1) filled ≡ schedule (t + 1) b
+unfolding schedule longer
+filled_more b w filled t below long so_far put =
     let inside : t < length w = omega arith in
-    let same : Wt t b w ≡ Wt t b (schedule t b) = sym (Wt-take t b w) ∙ ap (Wt t b) so_far.words in
-    let here : get_or filled t 0 ≡ get_or (schedule 64 b) t 0 = ap (λ (l : List ℕ). get_or l t 0) put ∙ get_or-set_same w t (Wt t b w) 0 inside ∙ same ∙ sym (schedule_at 64 t b below) in
-    record {
-      words = rw (add-one, put, take-suc-set) (λ i. so_far.words i ++ (same i ∷ []));
-      value = rw add-one (done ∙ (λ i. round (so_far.value i) (get_or K t 0) (here i)));
-    }
+    let same : Wt t b w ≡ Wt t b (schedule t b) = sym (Wt-take t b w) ∙ ap (Wt t b) so_far in
+    rw (add-one, put, take-suc-set) (λ i. so_far i ++ (same i ∷ []))
 
--- the same, where the number of rounds is written in another way
-pub reached_at : {h v : Words} {b w : List ℕ} {s : ℕ} (t : ℕ) → s ≡ t → Reached h b s v w → Reached h b t v w
-reached_at {h} {v} {b} {w} t e r = subst (λ (n : ℕ). Reached h b n v w) e r
+-- the word that is filled in is the schedule's
+pub filled_word : (b w : List ℕ) (t : ℕ) → t < 64 → take t w ≡ schedule t b → Wt t b w ≡ get_or (schedule 64 b) t 0
+filled_word b w t below so_far = sym (Wt-take t b w) ∙ ap (Wt t b) so_far ∙ sym (schedule_at 64 t b below)
