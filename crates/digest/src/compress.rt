@@ -6,29 +6,25 @@ use crate::constants::K;
 use crate::schedule::Schedule;
 use crate::words::Words;
 
-// The hash value after a block, from v before it. Four rounds a turn were measured to be faster than one (docs/DECISIONS.md has the figures).
-pub fn compress(v: Words, block: &[u8; 64]) -> Words
-    ensures { result ≡ compressed v block.now }
+// The hash value after a block. Four rounds a turn were measured to be faster than one (docs/DECISIONS.md has the figures).
+pub fn compress(before: Words, block: &[u8; 64]) -> Words
+    ensures { result ≡ compressed before block.now }
 {
     let mut schedule = Schedule::new(block);
-    let mut u = v;
+    let mut words = before;
     for k in K.as_chunks::<4>().0 {
-        u = u.round(k[0], schedule.next_word());
-        u = u.round(k[1], schedule.next_word());
-        u = u.round(k[2], schedule.next_word());
-        u = u.round(k[3], schedule.next_word());
+        words = words.round(k[0], schedule.next_word());
+        words = words.round(k[1], schedule.next_word());
+        words = words.round(k[2], schedule.next_word());
+        words = words.round(k[3], schedule.next_word());
     }
-    v + u
+    before + words
 }
 
-// The hash value after all whole blocks at the beginning of a message, from v before them.
-pub fn compress_all(v: Words, message: &[u8]) -> Words
-    ensures { result ≡ hashed (length message.now / 64) v message.now }
+// The hash value after all whole blocks at the beginning of a message.
+pub fn compress_all(before: Words, message: &[u8]) -> Words
+    ensures { result ≡ hashed (length message.now / 64) before message.now }
 {
     let (whole, _) = message.as_chunks::<64>();
-    let mut u = v;
-    for block in whole {
-        u = compress(u, block);
-    }
-    u
+    whole.iter().fold(before, compress)
 }

@@ -14,10 +14,10 @@ loop-k-preserved c =
     let i = c.loop-k.k-index in
     let below : i < 16 = omega (arith, c.as_chunks.ensures.front_len) in
     let cut = c.as_chunks.ensures.front in
-    let one = round_more c.loop-k.schedule.filled i 0 _ c.args.v _ _ w _ _ _ cut below (omega arith) (omega arith) c.next_word.ensures.filled c.loop-k.invariant.done (cc) c.round-u.ensures in
-    let two = round_more c.next_word.new.self.filled i 1 _ c.args.v _ _ w _ _ _ cut below (omega arith) (omega arith) c.next_word-in-loop-k.ensures.filled one (cc) c.round-u-in-loop-k.ensures in
-    let three = round_more c.next_word-in-loop-k.new.self.filled i 2 _ c.args.v _ _ w _ _ _ cut below (omega arith) (omega arith) c.next_word-in-loop-k-2.ensures.filled two (cc) c.round-u-in-loop-k-2.ensures in
-    let four = round_more c.next_word-in-loop-k-2.new.self.filled i 3 _ c.args.v _ _ w _ _ _ cut below (omega arith) (omega arith) c.next_word-in-loop-k-3.ensures.filled three (cc) c.round-u-in-loop-k-3.ensures in
+    let one = round_more c.loop-k.schedule.filled i 0 _ c.args.before _ _ w _ _ _ cut below (omega arith) (omega arith) c.next_word.ensures.filled c.loop-k.invariant.done (cc) c.round-words.ensures in
+    let two = round_more c.next_word.new.self.filled i 1 _ c.args.before _ _ w _ _ _ cut below (omega arith) (omega arith) c.next_word-in-loop-k.ensures.filled one (cc) c.round-words-in-loop-k.ensures in
+    let three = round_more c.next_word-in-loop-k.new.self.filled i 2 _ c.args.before _ _ w _ _ _ cut below (omega arith) (omega arith) c.next_word-in-loop-k-2.ensures.filled two (cc) c.round-words-in-loop-k-2.ensures in
+    let four = round_more c.next_word-in-loop-k-2.new.self.filled i 3 _ c.args.before _ _ w _ _ _ cut below (omega arith) (omega arith) c.next_word-in-loop-k-3.ensures.filled three (cc) c.round-words-in-loop-k-3.ensures in
     record {
       same = cc;
       filled = omega arith;
@@ -28,4 +28,4 @@ pub returns : goal.returns
 unfolding compressed
 returns c =
     let all : c.loop-k.schedule.filled ≡ 64 = omega (arith, c.as_chunks.ensures.front_len) in
-    c.add.ensures ∙ ap (added c.args.v) (rw all at c.loop-k.invariant.done)
+    c.add.ensures ∙ ap (added c.args.before) (rw all at c.loop-k.invariant.done)

@@ -6,5 +6,5 @@ abbrev pub invariant-loop-k : goal.invariant-loop-k
 invariant-loop-k l = record {
   same : l.schedule.block.now ≡ l.block;
   filled : l.schedule.filled ≡ 4 * l.k-index;
-  done : l.u ≡ rounds l.schedule.filled l.v (schedule 64 l.block);
+  done : l.words ≡ rounds l.schedule.filled l.before (schedule 64 l.block);
 }

@@ -1,18 +1,12 @@
-use Rattle.std.proofs.Common.{◌≡◌, ◌/◌, ◌<◌, length, refl, arith}
-use Rattle.digest.specs.Sha256.{hashed}
-use Rattle.digest.proofs.Blocks.{hashed_more}
+use Rattle.std.proofs.Common.{◌≡◌, ◌/◌, length, sym, ◌∙◌, fold, arith}
+use Rattle.std.proofs.lemmas.Grind.{common_steps}
+use Rattle.std.specs.Simd.{first_chunks}
+use Rattle.digest.specs.Sha256.{compressed}
+use Rattle.digest.proofs.Blocks.{hashed_in_turn}
 use Rattle.digest.proofs.compress.compress_all.Goals as goal
-
-pub loop-block-init : goal.loop-block-init
-unfolding hashed
-loop-block-init c = refl
-
-pub loop-block-preserved : goal.loop-block-preserved
-loop-block-preserved c =
-    let below : c.loop-block.block-index < length c.args.message.now / 64 = omega (arith, c.as_chunks.ensures.front_len) in
-    hashed_more (length c.args.message.now / 64) c.loop-block.block-index c.args.v _ _ c.args.message.now _ _ c.as_chunks.ensures.front below c.loop-block.invariant c.compress-u.ensures
 
 pub returns : goal.returns
 returns c =
-    let e : length c.args.message.now / 64 ≡ c.loop-block.block-index = omega (arith, c.as_chunks.ensures.front_len) in
-    rw e c.loop-block.invariant
+    let n = length c.args.message.now / 64 in
+    let in_turn : c.fold.result ≡ fold compressed c.args.before (first_chunks 64 n c.args.message.now) = grind (arith, common_steps) in
+    in_turn ∙ sym (hashed_in_turn n c.args.before c.args.message.now)
