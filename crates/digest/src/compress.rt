@@ -1,6 +1,6 @@
 // The hash value after a block of 64 bytes, and after several.
-ghost use Rattle.std.specs.Prelude.{◌≡◌, ◌/◌, length};
-ghost use Rattle.digest.specs.Sha256.{compressed, hashed};
+ghost use Rattle.std.specs.Prelude.{◌≡◌, fold};
+ghost use Rattle.digest.specs.Sha256.{compressed};
 
 use crate::constants::K;
 use crate::schedule::Schedule;
@@ -21,10 +21,9 @@ pub fn compress(before: Words, block: &[u8; 64]) -> Words
     before + words
 }
 
-// The hash value after all whole blocks at the beginning of a message.
-pub fn compress_all(before: Words, message: &[u8]) -> Words
-    ensures { result ≡ hashed (length message.now / 64) before message.now }
+// The hash value after blocks, one after the other.
+pub fn compress_all(before: Words, blocks: &[[u8; 64]]) -> Words
+    ensures { result ≡ fold compressed before blocks.now }
 {
-    let (whole, _) = message.as_chunks::<64>();
-    whole.iter().fold(before, compress)
+    blocks.iter().fold(before, compress)
 }
