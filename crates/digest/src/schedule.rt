@@ -7,13 +7,14 @@ use crate::functions::small_sigma;
 #[derive(Drop)]
 pub struct Schedule<'a> {
     block: &'a [u8; 64],
-    // how many words there are so far, at the beginning of words
+    // how many words there are so far, at the beginning of words: an array, since a caller in C has no allocator to give
     filled: usize,
     words: [u32; 64],
     ghost in_order: { take filled words ≡ schedule filled block.now },
 }
 
 // Word i of a block, from its four bytes, the highest first.
+#[tactic(auto, using(crate::proofs::Chunks::word_of_chunk))]
 fn word_at(block: &[u8; 64], i: usize) -> u32
     requires { i < 16 }
     ensures { result ≡ word i block.now }
@@ -22,6 +23,7 @@ fn word_at(block: &[u8; 64], i: usize) -> u32
 }
 
 impl<'a> Schedule<'a> {
+    #[tactic(auto, unfolding(crate::specs::Sha256::schedule))]
     pub fn new(block: &'a [u8; 64]) -> Schedule<'a>
         ensures block { result.block.now ≡ block.now }
         ensures none { result.filled ≡ 0 }
@@ -33,8 +35,8 @@ impl<'a> Schedule<'a> {
         }
     }
 
-    #[tactic(auto, using(std::proofs::lemmas::Bool::Decides::nat_tests), unfolding(crate::specs::Sha256::Wt))]
     // The word after those that there are: one of the block's, and from the sixteenth on one that four before it give.
+    #[tactic(auto, using(std::proofs::lemmas::Bool::Decides::nat_tests), unfolding(crate::specs::Sha256::Wt))]
     fn after(&self) -> u32
         requires { self.now.filled < 64 }
         ensures { result ≡ Wt self.now.filled self.now.block.now self.now.words }

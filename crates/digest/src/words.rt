@@ -22,6 +22,7 @@ pub struct Words {
 
 impl Words {
     // One of the 64 rounds, with its constant k and its word w of the schedule.
+    #[tactic(auto, unfolding(crate::specs::Sha256::round, crate::specs::Sha256::T1, crate::specs::Sha256::T2))]
     pub fn round(self, k: u32, w: u32) -> Words
         ensures { result ≡ round self k w }
     {
