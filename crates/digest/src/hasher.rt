@@ -20,7 +20,6 @@ pub struct Hasher {
 }
 
 // Copies bytes into the block from at on.
-#[tactic(auto, using(std::proofs::lemmas::Slice::overwrites))]
 fn put(block: &mut [u8; 64], at: usize, bytes: &[u8])
     requires { at + length bytes.now ≤ 64 }
     ensures { take (at + length bytes.now) block.new ≡ take at block.old ++ bytes.now }

@@ -51,6 +51,7 @@ impl<'a> Schedule<'a> {
             .wrapping_add(self.words[t - 16])
     }
 
+    #[tactic(auto, using(crate::proofs::Filling::filled_more, crate::proofs::Filling::filled_word))]
     pub fn next_word(&mut self) -> u32
         requires { self.old.filled < 64 }
         ensures word { result ≡ slice_index (schedule 64 self.old.block.now) self.old.filled }
