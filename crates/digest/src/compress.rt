@@ -7,6 +7,7 @@ use crate::schedule::Schedule;
 use crate::words::Words;
 
 // The hash value after a block. Four rounds a turn were measured to be faster than one (docs/DECISIONS.md has the figures).
+#[tactic(auto, unfolding(crate::specs::Sha256::rounds, crate::specs::Sha256::compressed))]
 pub fn compress(before: Words, block: &[u8; 64]) -> Words
     ensures { result ≡ compressed before block.now }
 {
