@@ -1,26 +1,11 @@
 -- What a hasher holds, after more bytes.
 -- Assumes nothing.
-use Rattle.std.proofs.Common.{◌≡◌, ℕ, ◌+◌, ◌-◌, ◌*◌, ◌/◌, ◌%◌, ◌^◌, ◌<◌, ◌≤◌, List, ◌++◌, length, take, drop, sym, ap, ◌∙◌, append_assoc, arith, length-append, take-append-drop, length-take-le, take_all}
+use Rattle.std.proofs.Common.{◌≡◌, ℕ, ◌+◌, ◌-◌, ◌*◌, ◌/◌, ◌%◌, ◌^◌, ◌≤◌, List, ◌++◌, length, take, drop, sym, ap, ◌∙◌, append_assoc, arith, length-append, take-append-drop, length-take-le, take_all}
 use Rattle.digest.specs.declared.words.Words.{Words}
 use Rattle.digest.specs.declared.hasher.Hasher.{Hasher}
 use Rattle.digest.specs.Hasher.{Absorbed}
 use Rattle.digest.specs.Sha256.{initial, block, compressed, hashed}
 use Rattle.digest.proofs.Blocks.{hashed-append, hashed_left}
-
--- fewer bytes than the block that is begun lacks
-pub absorbs_few : (h : Hasher) (m s held : List ℕ) → length s < 64 - h.length % 64 → take (h.length % 64 + length s) held ≡ take (h.length % 64) h.rest ++ s → Absorbed h m
-    → Absorbed (record { value = h.value; rest = held; length = (h.length + length s) % 2 ^ 64 }) (m ++ s)
-absorbs_few h m s held few put a =
-    let n : (h.length + length s) % 2 ^ 64 % 64 ≡ h.length % 64 + length s = omega arith in
-    let joined = length-append m s in
-    record {
-      blocks = a.blocks;
-      front = a.front;
-      whole = a.whole;
-      value = a.value;
-      rest = ap (λ (l : List ℕ). l ++ s) a.rest ∙ append_assoc a.front (take (h.length % 64) h.rest) s ∙ ap (λ (l : List ℕ). a.front ++ l) (sym put ∙ ap (λ (k : ℕ). take k held) (sym n));
-      size = let z = a.size in omega (arith, joined, z);
-    }
 
 -- one block, and then some more
 hashed_first : (k : ℕ) (v : Words) (b after : List ℕ) → length b ≡ 64 → hashed (1 + k) v (b ++ after) ≡ hashed k (compressed v b) after

@@ -1,7 +1,6 @@
-use Rattle.std.proofs.Common.{◌≡◌, ℕ, ◌/◌, List, ◌++◌, length, sym, ap, ◌∙◌, zero-add, fold, take-append-drop, arith}
-use Rattle.digest.specs.declared.words.Words.{Words}
-use Rattle.digest.specs.Sha256.{compressed, hashed}
-use Rattle.digest.proofs.Absorbing.{absorbs_few, absorbs_many}
+use Rattle.std.proofs.Common.{ℕ, ◌/◌, List, ◌++◌, length, sym, ◌∙◌, zero-add, fold, take-append-drop}
+use Rattle.digest.specs.Sha256.{compressed}
+use Rattle.digest.proofs.Absorbing.{absorbs_many}
 use Rattle.digest.proofs.Blocks.{hashed_in_turn}
 use Rattle.digest.proofs.hasher.Hasher.update.Goals as goal
 
