@@ -62,7 +62,7 @@ impl Hasher {
         let bits = self.length.wrapping_mul(8);
         let zeros = ((119 - self.length % 64) % 64) as usize;
         self.update(&[0x80]);
-        self.update(&[0; 64][0..zeros]);
+        self.update(&[0; 64][..zeros]);
         self.update(&bits.to_be_bytes());
         Digest::from(self.value)
     }

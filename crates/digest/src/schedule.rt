@@ -7,7 +7,7 @@ use crate::functions::small_sigma;
 #[derive(Drop)]
 pub struct Schedule<'a> {
     block: &'a [u8; 64],
-    // how many words there are so far, at the beginning of words: an array, since a caller in C has no allocator to give
+    // how many words there are so far; they stand at the beginning of words, an array, since a caller in C has no allocator to give
     filled: usize,
     words: [u32; 64],
     ghost in_order: { take filled words ≡ schedule filled block.now },

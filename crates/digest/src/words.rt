@@ -1,7 +1,5 @@
 // Eight 32-bit words: a hash value H0 to H7, or the working variables a to h of one block.
 ghost use Rattle.std.specs.Prelude.{◌≡◌};
-ghost use Rattle.digest.specs.declared.words.Words.{Words as AnyWords};
-ghost use Rattle.digest.specs.declared.value.Digest.{Digest as AnyDigest};
 ghost use Rattle.digest.specs.Sha256.{added, joined_words, round};
 
 use crate::functions::{big_sigma, ch, maj};
