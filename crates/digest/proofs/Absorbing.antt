@@ -1,26 +1,11 @@
 -- What a hasher holds, after more bytes.
 -- Assumes nothing.
-use Rattle.std.proofs.Common.{◌≡◌, ℕ, ◌+◌, ◌-◌, ◌*◌, ◌/◌, ◌%◌, ◌^◌, ◌<◌, ◌≤◌, List, ◌++◌, length, take, drop, sym, ap, ◌∙◌, append_assoc, arith, length-append, take-append-drop, length-take-le, take_all}
+use Rattle.std.proofs.Common.{◌≡◌, ℕ, ◌+◌, ◌-◌, ◌*◌, ◌/◌, ◌%◌, ◌^◌, ◌≤◌, List, ◌++◌, length, take, drop, sym, ap, ◌∙◌, append_assoc, arith, length-append, take-append-drop, length-take-le, take_all}
 use Rattle.digest.specs.declared.words.Words.{Words}
 use Rattle.digest.specs.declared.hasher.Hasher.{Hasher}
 use Rattle.digest.specs.Hasher.{Absorbed}
 use Rattle.digest.specs.Sha256.{initial, block, compressed, hashed}
 use Rattle.digest.proofs.Blocks.{hashed-append, hashed_left}
-
--- fewer bytes than the block that is begun lacks
-pub absorbs_few : (h : Hasher) (m s held : List ℕ) → length s < 64 - h.length % 64 → take (h.length % 64 + length s) held ≡ take (h.length % 64) h.rest ++ s → Absorbed h m
-    → Absorbed (record { value = h.value; rest = held; length = (h.length + length s) % 2 ^ 64 }) (m ++ s)
-absorbs_few h m s held few put a =
-    let n : (h.length + length s) % 2 ^ 64 % 64 ≡ h.length % 64 + length s = omega arith in
-    let joined = length-append m s in
-    record {
-      blocks = a.blocks;
-      front = a.front;
-      whole = a.whole;
-      value = a.value;
-      rest = ap (λ (l : List ℕ). l ++ s) a.rest ∙ append_assoc a.front (take (h.length % 64) h.rest) s ∙ ap (λ (l : List ℕ). a.front ++ l) (sym put ∙ ap (λ (k : ℕ). take k held) (sym n));
-      size = let z = a.size in omega (arith, joined, z);
-    }
 
 -- one block, and then some more
 hashed_first : (k : ℕ) (v : Words) (b after : List ℕ) → length b ≡ 64 → hashed (1 + k) v (b ++ after) ≡ hashed k (compressed v b) after
@@ -42,11 +27,11 @@ regroup_end : (a b c d : List ℕ) → a ++ (b ++ (c ++ d)) ≡ (a ++ (b ++ c)) 
 regroup_end a b c d = simp append_assoc
 
 -- as many bytes as complete the block that is begun, and then whole blocks and an end
-pub absorbs_many : (h : Hasher) (m first after end held rest : List ℕ) (w : Words) → length first ≡ 64 - h.length % 64 → length held ≡ 64
+pub absorbs_many : (h : Hasher) (m more first after end held rest : List ℕ) (w : Words) → first ++ after ≡ more → length first ≡ 64 - h.length % 64 → length held ≡ 64
     → take (h.length % 64 + length first) held ≡ take (h.length % 64) h.rest ++ first → w ≡ hashed (length after / 64) (compressed h.value held) after
     → end ≡ drop (length after / 64 * 64) after → take (length end) rest ≡ end → Absorbed h m
-    → Absorbed (record { value = w; rest = rest; length = (h.length + length (first ++ after)) % 2 ^ 64 }) (m ++ (first ++ after))
-absorbs_many h m first after end held rest w long full put value ends kept a =
+    → Absorbed (record { value = w; rest = rest; length = (h.length + length more) % 2 ^ 64 }) (m ++ more)
+absorbs_many h m more first after end held rest w split long full put value ends kept a =
     let k : ℕ = length after / 64 in
     let fits : 64 * k ≤ length after = omega arith in
     let turned : length after / 64 * 64 ≡ 64 * k = omega arith in
@@ -57,11 +42,11 @@ absorbs_many h m first after end held rest w long full put value ends kept a =
     let size_now : length hashed_now ≡ 64 * k = length-take-le (64 * k) after fits in
     let size_parts = ap length parts in
     let size_split = length-append hashed_now end in
-    let size_more = length-append first after in
-    let size_all = length-append m (first ++ after) in
+    let size_more = sym (ap length split) ∙ length-append first after in
+    let size_all = length-append m more in
     let size_front = length-append a.front (held ++ hashed_now) in
     let size_held = length-append held hashed_now in
-    let waiting : (h.length + length (first ++ after)) % 2 ^ 64 % 64 ≡ length end = omega arith in
+    let waiting : (h.length + length more) % 2 ^ 64 % 64 ≡ length end = omega arith in
     record {
       blocks = a.blocks + (1 + k);
       front = a.front ++ (held ++ hashed_now);
@@ -70,7 +55,7 @@ absorbs_many h m first after end held rest w long full put value ends kept a =
           ∙ sym (hashed_front k (compressed (hashed a.blocks initial a.front) held) after fits)
           ∙ sym (hashed_first k (hashed a.blocks initial a.front) held hashed_now full)
           ∙ sym (hashed-append a.blocks (1 + k) initial a.front (held ++ hashed_now) a.whole);
-      rest = ap (λ (l : List ℕ). l ++ (first ++ after)) a.rest
+      rest = (λ i. a.rest i ++ sym split i)
           ∙ regroup a.front begun first after
           ∙ ap (λ (l : List ℕ). a.front ++ (l ++ after)) (sym filled)
           ∙ ap (λ (l : List ℕ). a.front ++ (held ++ l)) (sym parts)

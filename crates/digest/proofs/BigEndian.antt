@@ -1,32 +1,46 @@
 -- Numbers as bytes, the highest first, and words one after the other.
 -- Assumes nothing.
-use Rattle.std.proofs.Common.{◌≡◌, ℕ, zero, suc, ◌+◌, ◌*◌, ◌/◌, ◌%◌, ◌<◌, ◌≤◌, List, [], ◌∷◌, ◌++◌, length, get_or, take, sym, refl, ap, ◌∙◌, append_assoc, append-nil, div-one, arith}
-use borrow.Rule.Slice.PartMut.{put_mid}
-use Rattle.std.proofs.lemmas.List.{take_more}
-use Rattle.std.proofs.lemmas.Slice.{take-put_mid}
+use Rattle.std.proofs.Common.{◌≡◌, ℕ, zero, suc, ◌+◌, ◌*◌, ◌/◌, ◌%◌, ◌^◌, ◌<◌, List, [], ◌∷◌, length, get_or, sym, refl, ap, ◌∙◌, div-one, arith}
+use native.Mathlib.Nat.{mul-suc, pow-suc}
+use Rattle.std.proofs.Math.Pow.{mod-mod-pow}
+use Rattle.std.proofs.lemmas.Nat.{field_of, pow-add}
+use Rattle.std.specs.Int.{bytes_high_first}
+use Rattle.std.specs.List.{flat_map}
 use Rattle.digest.specs.Sha256.{big_endian, word_bytes}
 
--- what `to_be_bytes` gives of 32 bits
-pub four_bytes : (x : ℕ) → (x / 16777216 % 256) ∷ ((x / 65536 % 256) ∷ ((x / 256 % 256) ∷ ((x % 256) ∷ []))) ≡ big_endian 4 x
+-- what `to_be_bytes` gives
+pub to_be_bytes_is : (n x : ℕ) → bytes_high_first n x ≡ big_endian n x
 unfolding big_endian
-four_bytes x = rw div-one
+to_be_bytes_is zero x = refl
+to_be_bytes_is (suc zero) x = rw div-one
+to_be_bytes_is (suc (suc n)) x = ap (λ (l : List ℕ). (x / 256 ^ suc n % 256) ∷ l) (to_be_bytes_is (suc n) x)
+
+place : (n : ℕ) → 2 ^ (8 * n) ≡ 256 ^ n
+place zero = refl
+place (suc n) = ap (λ (k : ℕ). 2 ^ k) (mul-suc 8 n) ∙ pow-add 2 (8 * n) 8 ∙ ap (λ (x : ℕ). x * 256) (place n) ∙ sym (pow-suc 256 n)
+
+-- the lowest n bytes of a number are those of its lowest i + 8 * n bits
+pub low_bytes : (n i x : ℕ) → big_endian n (x % 2 ^ (i + 8 * n)) ≡ big_endian n x
+unfolding big_endian
+low_bytes zero i x = refl
+low_bytes (suc n) i x =
+    let bits : i + 8 * suc n ≡ i + 8 + 8 * n = rw mul-suc (omega arith) in
+    let byte : x % 2 ^ (i + 8 + 8 * n) / 2 ^ (8 * n) % 2 ^ 8 ≡ x / 2 ^ (8 * n) % 2 ^ 8 = ap (λ (y : ℕ). y % 2 ^ 8) (field_of x (i + 8) (8 * n)) ∙ mod-mod-pow (x / 2 ^ (8 * n)) i 8 in
+    let same = place n in
+    rw bits (λ k. (rw same at byte) k ∷ low_bytes n (i + 8) x k)
 
 pub length-big_endian : (n x : ℕ) → length (big_endian n x) ≡ n
 unfolding big_endian
 length-big_endian zero x = refl
 length-big_endian (suc n) x = ap suc (length-big_endian n x)
 
-word_bytes-push : (ws : List ℕ) (w : ℕ) → word_bytes (ws ++ (w ∷ [])) ≡ word_bytes ws ++ big_endian 4 w
+-- words one after the other, from a list of each one's bytes
+pub words_flat : (ws : List ℕ) (four : List (List ℕ)) → length four ≡ length ws → ((i : ℕ) → i < length ws → get_or four i [] ≡ big_endian 4 (get_or ws i 0)) → flat_map (λ x. x) four ≡ word_bytes ws
 unfolding word_bytes
-word_bytes-push [] w = append-nil (big_endian 4 w)
-word_bytes-push (x ∷ ws) w = ap (λ (l : List ℕ). big_endian 4 x ++ l) (word_bytes-push ws w) ∙ sym (append_assoc (big_endian 4 x) (word_bytes ws) (big_endian 4 w))
-
--- one word more is written
-pub word_written : (bs ws ys : List ℕ) (i k : ℕ) → i < length ws → 4 * i ≤ length bs → ys ≡ big_endian 4 (get_or ws i 0) → take (4 * i) bs ≡ word_bytes (take i ws)
-    → take (4 * (i + 1)) (put_mid (4 * i) k bs ys) ≡ word_bytes (take (i + 1) ws)
-word_written bs ws ys i k within room e so_far =
-    let long : length ys ≡ 4 = ap length e ∙ length-big_endian 4 (get_or ws i 0) in
-    let n : 4 * (i + 1) ≡ 4 * i + length ys = omega arith in
-    let t = take-put_mid (4 * i) k bs ys (4 * (i + 1)) n room in
-    let p = ap word_bytes (take_more ws i 0 within) ∙ word_bytes-push (take i ws) (get_or ws i 0) in
+words_flat [] [] long each = refl
+words_flat [] (y ∷ ys) long each = absurd (omega arith)
+words_flat (w ∷ ws) [] long each = absurd (omega arith)
+words_flat (w ∷ ws) (y ∷ ys) long each =
+    let first : y ≡ big_endian 4 w = each 0 (omega arith) in
+    let more = words_flat ws ys (omega arith) (λ i h. each (suc i) (omega arith)) in
     cc

@@ -1,20 +1,11 @@
 -- Blocks of a message, and the hash value after some of them.
 -- Assumes nothing.
-use Rattle.std.proofs.Common.{◌≡◌, ℕ, zero, suc, ◌+◌, ◌*◌, ◌<◌, ◌≤◌, List, ◌++◌, length, get_or, take, drop, refl, ap, ◌∙◌, not-suc-le-zero, add-zero, add-suc, add-one, arith, length-drop, drop-drop}
+use Rattle.std.proofs.Common.{◌≡◌, ℕ, zero, suc, ◌+◌, ◌*◌, ◌≤◌, List, ◌++◌, length, take, drop, refl, sym, ap, ◌∙◌, add-zero, add-suc, arith, length-drop, drop-drop}
 use lib.Seq.{take-append-le, drop-append-le, drop-append-add}
+use Rattle.std.specs.List.{fold}
 use Rattle.std.specs.Simd.{first_chunks}
 use Rattle.digest.specs.declared.words.Words.{Words}
 use Rattle.digest.specs.Sha256.{block, compressed, hashed}
-
--- a block among the blocks that a message is cut into
-chunk_is_block : (k i : ℕ) (m d : List ℕ) → i < k → get_or (first_chunks 64 k m) i d ≡ block i m
-unfolding block
-chunk_is_block zero i m d h = absurd (not-suc-le-zero h)
-chunk_is_block (suc k) zero m d h = refl
-chunk_is_block (suc k) (suc i) m d h =
-    let below : i < k = omega arith in
-    let e : 64 + 64 * i ≡ 64 * suc i = omega arith in
-    chunk_is_block k i (drop 64 m) d below ∙ ap (take 64) (drop-drop (64 * i) 64 m ∙ ap (λ (n : ℕ). drop n m) e)
 
 -- a block that lies in the first part of a message
 block_left : (i : ℕ) (m more : List ℕ) → 64 * suc i ≤ length m → block i (m ++ more) ≡ block i m
@@ -50,9 +41,17 @@ hashed-append n (suc k) v m more l =
     let b = block_right n k m more l in
     rw add-suc (cc)
 
--- one block more, out of the blocks that a message is cut into
-pub hashed_more : (k i : ℕ) (v u r : Words) (m d : List ℕ) (blocks : List (List ℕ)) → blocks ≡ first_chunks 64 k m → i < k → u ≡ hashed i v m → r ≡ compressed u (get_or blocks i d) → r ≡ hashed (i + 1) v m
+-- the first block, and then the others
+hashed-suc : (k : ℕ) (v : Words) (m : List ℕ) → hashed (suc k) v m ≡ hashed k (compressed v (take 64 m)) (drop 64 m)
+unfolding hashed block
+hashed-suc zero v m = refl
+hashed-suc (suc k) v m =
+    let e : 64 + 64 * k ≡ 64 * suc k = omega arith in
+    let b : take 64 (drop (64 * suc k) m) ≡ take 64 (drop (64 * k) (drop 64 m)) = ap (take 64) (sym (drop-drop (64 * k) 64 m ∙ ap (λ (n : ℕ). drop n m) e)) in
+    (λ i. compressed (hashed-suc k v m i) (b i))
+
+-- the blocks that a message is cut into, one after the other
+pub hashed_in_turn : (k : ℕ) (v : Words) (m : List ℕ) → hashed k v m ≡ fold compressed v (first_chunks 64 k m)
 unfolding hashed
-hashed_more k i v u r m d blocks cut below before after =
-    let at = ap (λ (x : List (List ℕ)). get_or x i d) cut ∙ chunk_is_block k i m d below in
-    rw add-one (cc)
+hashed_in_turn zero v m = refl
+hashed_in_turn (suc k) v m = hashed-suc k v m ∙ hashed_in_turn k (compressed v (take 64 m)) (drop 64 m)

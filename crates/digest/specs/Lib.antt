@@ -1,4 +1,3 @@
-pub mod Compressing
 pub mod Digests
 pub mod Examples
 pub mod Hasher

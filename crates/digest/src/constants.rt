@@ -1,7 +1,4 @@
 // The constants of SHA-256.
-ghost use Rattle.std.specs.Prelude.{◌≡◌};
-ghost use Rattle.digest.specs.Sha256.{initial};
-
 use crate::words::Words;
 
 // The first 32 bits of the fractional parts of the cube roots of the first 64 primes.
@@ -17,17 +14,13 @@ pub const K: [u32; 64] = [
 ];
 
 // The hash value before the first block: the first 32 bits of the fractional parts of the square roots of the first eight primes.
-pub const fn initial_value() -> Words
-    ensures { result ≡ initial }
-{
-    Words {
-        a: 0x6a09e667,
-        b: 0xbb67ae85,
-        c: 0x3c6ef372,
-        d: 0xa54ff53a,
-        e: 0x510e527f,
-        f: 0x9b05688c,
-        g: 0x1f83d9ab,
-        h: 0x5be0cd19,
-    }
-}
+pub const INITIAL_VALUE: Words = Words {
+    a: 0x6a09e667,
+    b: 0xbb67ae85,
+    c: 0x3c6ef372,
+    d: 0xa54ff53a,
+    e: 0x510e527f,
+    f: 0x9b05688c,
+    g: 0x1f83d9ab,
+    h: 0x5be0cd19,
+};

@@ -4,15 +4,16 @@ ghost use Rattle.digest.specs.Digests.{digest_of};
 ghost use Rattle.digest.specs.Hasher.{Absorbed};
 
 use crate::compress::{compress, compress_all};
-use crate::constants::initial_value;
+use crate::constants::INITIAL_VALUE;
 use crate::value::Digest;
 use crate::words::Words;
 
+// The message is no function of what is held, so a relation, `Absorbed`, says which message a hasher was given.
 #[derive(Drop)]
 pub struct Hasher {
     // the hash value after the whole blocks so far
     value: Words,
-    // at its beginning the bytes after those, length modulo 64 of them
+    // at its beginning the bytes after those, length modulo 64 of them; an array, since a caller in C has no allocator to give
     rest: [u8; 64],
     // how many bytes there were, modulo 2 to the 64
     length: u64,
@@ -27,11 +28,12 @@ fn put(block: &mut [u8; 64], at: usize, bytes: &[u8])
 }
 
 impl Hasher {
+    #[tactic(auto, unfolding(crate::specs::Sha256::initial, crate::specs::Sha256::hashed))]
     pub fn new() -> Hasher
         ensures { Absorbed result [] }
     {
         Hasher {
-            value: initial_value(),
+            value: INITIAL_VALUE,
             rest: [0; 64],
             length: 0,
         }
@@ -43,14 +45,13 @@ impl Hasher {
     {
         let filled = (self.length % 64) as usize;
         self.length = self.length.wrapping_add(more.len() as u64);
-        if more.len() < 64 - filled {
+        let Some((first, after)) = more.split_at_checked(64 - filled) else {
             put(&mut self.rest, filled, more);
             return;
-        }
-        let (first, after) = more.split_at(64 - filled);
+        };
+        let (whole, end) = after.as_chunks::<64>();
         put(&mut self.rest, filled, first);
-        self.value = compress_all(compress(self.value, &self.rest), after);
-        let (_, end) = after.split_at(after.len() / 64 * 64);
+        self.value = compress_all(compress(self.value, &self.rest), whole);
         put(&mut self.rest, 0, end);
     }
 
@@ -61,9 +62,9 @@ impl Hasher {
         let bits = self.length.wrapping_mul(8);
         let zeros = ((119 - self.length % 64) % 64) as usize;
         self.update(&[0x80]);
-        self.update(&[0; 64][0..zeros]);
+        self.update(&[0; 64][..zeros]);
         self.update(&bits.to_be_bytes());
-        self.value.to_digest()
+        Digest::from(self.value)
     }
 }
 

@@ -8,6 +8,7 @@ mod functions;
 mod hasher;
 mod hex;
 mod many;
+mod schedule;
 #[cfg(test)]
 mod tests;
 mod value;

@@ -2,7 +2,7 @@ use Rattle.std.proofs.Common.{◌-◌, ◌%◌, length, ap, ◌∙◌, arith}
 use Rattle.digest.specs.declared.words.Words.{Words}
 use Rattle.digest.specs.Digests.{digest_of}
 use Rattle.digest.specs.Sha256.{sha256, joined_words, gap, padded}
-use Rattle.digest.proofs.Padding.{eight_bytes, first_zeros, absorbed_padded, padded_whole, absorbed_whole}
+use Rattle.digest.proofs.Padding.{length_bytes, first_zeros, absorbed_padded, padded_whole, absorbed_whole}
 use Rattle.digest.proofs.hasher.Hasher.finish.Goals as goal
 
 pub returns : goal.returns
@@ -12,6 +12,6 @@ returns c =
     let padding = c.update-3.ensures _ (c.update-2.ensures _ (c.update.ensures m a)) in
     let size = a.size in
     let zeros = first_zeros ((119 - c.args.self.length % 64) % 64) (gap (length m)) (omega arith) (omega arith) in
-    let end = c.to_be_bytes.ensures ∙ eight_bytes (length m) c.args.self.length size in
+    let end = c.to_be_bytes.ensures ∙ length_bytes (length m) c.args.self.length size in
     let value = absorbed_whole c.update-3.new.self (padded m) (padded_whole m) (absorbed_padded c.update-3.new.self m _ _ zeros end padding) in
-    c.to_digest.ensures ∙ ap (λ (v : Words). record { bytes = joined_words v }) value
+    c.from.ensures ∙ ap (λ (v : Words). record { bytes = joined_words v }) value

@@ -1,0 +1,66 @@
+// The message schedule of a block, one word after the other.
+ghost use Rattle.std.specs.Prelude.{◌≡◌, ◌+◌, ◌<◌, slice_index, take};
+ghost use Rattle.digest.specs.Sha256.{Wt, schedule, word};
+
+use crate::functions::small_sigma;
+
+#[derive(Drop)]
+pub struct Schedule<'a> {
+    block: &'a [u8; 64],
+    // how many words there are so far; they stand at the beginning of words, an array, since a caller in C has no allocator to give
+    filled: usize,
+    words: [u32; 64],
+    ghost in_order: { take filled words ≡ schedule filled block.now },
+}
+
+// Word i of a block, from its four bytes, the highest first.
+#[tactic(auto, using(crate::proofs::Chunks::word_of_chunk))]
+fn word_at(block: &[u8; 64], i: usize) -> u32
+    requires { i < 16 }
+    ensures { result ≡ word i block.now }
+{
+    u32::from_be_bytes(block.as_chunks::<4>().0[i])
+}
+
+impl<'a> Schedule<'a> {
+    #[tactic(auto, unfolding(crate::specs::Sha256::schedule))]
+    pub fn new(block: &'a [u8; 64]) -> Schedule<'a>
+        ensures block { result.block.now ≡ block.now }
+        ensures none { result.filled ≡ 0 }
+    {
+        Schedule {
+            block,
+            filled: 0,
+            words: [0; 64],
+        }
+    }
+
+    // The word after those that there are: one of the block's, and from the sixteenth on one that four before it give.
+    #[tactic(auto, using(std::proofs::lemmas::Bool::Decides::nat_tests), unfolding(crate::specs::Sha256::Wt))]
+    fn after(&self) -> u32
+        requires { self.now.filled < 64 }
+        ensures { result ≡ Wt self.now.filled self.now.block.now self.now.words }
+    {
+        let t = self.filled;
+        if t < 16 {
+            return word_at(self.block, t);
+        }
+        small_sigma::<17, 19, 10>(self.words[t - 2])
+            .wrapping_add(self.words[t - 7])
+            .wrapping_add(small_sigma::<7, 18, 3>(self.words[t - 15]))
+            .wrapping_add(self.words[t - 16])
+    }
+
+    #[tactic(auto, using(crate::proofs::Filling::filled_more, crate::proofs::Filling::filled_word))]
+    pub fn next_word(&mut self) -> u32
+        requires { self.old.filled < 64 }
+        ensures word { result ≡ slice_index (schedule 64 self.old.block.now) self.old.filled }
+        ensures filled { self.new.filled ≡ self.old.filled + 1 }
+        ensures block { self.new.block.now ≡ self.old.block.now }
+    {
+        let word = self.after();
+        self.words[self.filled] = word;
+        self.filled += 1;
+        word
+    }
+}
