@@ -1,6 +1,6 @@
 // A digest: 32 bytes, compared as bytes are.
 ghost use Rattle.std.specs.Prelude.{◌≡◌, Some, Decides};
-ghost use Rattle.digest.specs.Order.{order, TotalOrder};
+ghost use Rattle.digest.specs.Order.{order, TotalOrder, LibraryOrder, LibraryEquality};
 
 #[derive(Clone, Copy, Debug, PartialEq, Eq, PartialOrd, Ord, Hash)]
 pub struct Digest {
@@ -29,4 +29,6 @@ pub fn order_is_total()
     ensures decides { (x y : Digest) → Decides (⟦<Digest as PartialEq>⟧.eq x y) (x ≡ y) }
     ensures order { (x y : Digest) → ⟦<Digest as Ord>⟧.cmp x y ≡ order x.bytes y.bytes }
     ensures partial_order { (x y : Digest) → ⟦<Digest as PartialOrd>⟧.partial_cmp x y ≡ Some (order x.bytes y.bytes) }
+    ensures library_order { LibraryOrder }
+    ensures library_equality { LibraryEquality }
 {}

@@ -11,3 +11,6 @@ returns-clause-order c = λ x y. lex_is_order x.bytes y.bytes
 
 pub returns-clause-partial_order : goal.returns-clause-partial_order
 returns-clause-partial_order c = λ x y. lists_agrees (λ m n. refl) x.bytes y.bytes ∙ ap Some (lex_is_order x.bytes y.bytes)
+
+pub returns-clause-library_order : goal.returns-clause-library_order
+returns-clause-library_order c = λ x y. lex_is_order x.bytes y.bytes
