@@ -14,7 +14,6 @@ pub struct Schedule<'a> {
 }
 
 // Word i of a block, from its four bytes, the highest first.
-#[tactic(auto, using(crate::proofs::Chunks::word_of_chunk))]
 fn word_at(block: &[u8; 64], i: usize) -> u32
     requires { i < 16 }
     ensures { result ≡ word i block.now }
