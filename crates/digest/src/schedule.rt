@@ -4,17 +4,17 @@ ghost use Rattle.digest.specs.Sha256.{Wt, schedule, word};
 
 use crate::functions::small_sigma;
 
+// The working variables are no field of it: with them the speed fell below 0.9 of plain Rust's (docs/DECISIONS.md has the figures).
 #[derive(Drop)]
 pub struct Schedule<'a> {
     block: &'a [u8; 64],
-    // how many words there are so far; they stand at the beginning of words, an array, since a caller in C has no allocator to give
+    // how many words there are so far, at the beginning of words, which is an array since a caller in C has no allocator to give
     filled: usize,
     words: [u32; 64],
     ghost in_order: { take filled words ≡ schedule filled block.now },
 }
 
 // Word i of a block, from its four bytes, the highest first.
-#[tactic(auto, using(crate::proofs::Chunks::word_of_chunk))]
 fn word_at(block: &[u8; 64], i: usize) -> u32
     requires { i < 16 }
     ensures { result ≡ word i block.now }
@@ -51,6 +51,7 @@ impl<'a> Schedule<'a> {
             .wrapping_add(self.words[t - 16])
     }
 
+    // The next word, which is kept for the words after it.
     #[tactic(auto, using(crate::proofs::Filling::filled_more, crate::proofs::Filling::filled_word))]
     pub fn next_word(&mut self) -> u32
         requires { self.old.filled < 64 }
