@@ -25,15 +25,8 @@ TooLong size r = (r ≡ FileTooLong) × (number_of r ≡ Some 1) × (most_in_fil
 -- why a file of so many bytes is not cut: it has too many, or else, if it has any, there is no memory for its pieces
 abbrev pub NotCut : ℕ → Refusal → Type 0
 NotCut size FileTooLong = TooLong size FileTooLong
-NotCut size Unknown = ⊥
-NotCut size BadDay = ⊥
-NotCut size MakesDay = ⊥
-NotCut size MakesNone = ⊥
-NotCut size NotAtThatPoint = ⊥
-NotCut size TooManyNames = ⊥
-NotCut size LastNumber = ⊥
 NotCut size NoMemory = (0 < size) × (size ≤ most_in_file)
-NotCut size ReadOrWrite = ⊥
+NotCut size _ = ⊥
 
 -- what cutting a file answers: its pieces, with all that is promised of them, or why there are none
 abbrev pub Cut : List ℕ → Result (Vec (Bor (List ℕ)) Global) Refusal → Type 0
