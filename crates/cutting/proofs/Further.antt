@@ -1,6 +1,6 @@
 -- Going along the first piece of a file, some bytes at a time.
 -- Assumes nothing.
-use Rattle.std.proofs.Common.{◌≡◌, ℕ, zero, suc, ◌+◌, ◌-◌, ◌*◌, ◌<◌, ◌≤◌, min, true, false, ◌⊎◌, List, length, get_or, take, drop, fold, sym, ap, ◌∙◌, subst, inl, inr, ⊎_elim, arith, take_all, take-take, take-add, drop-drop, length-drop}
+use Rattle.std.proofs.Common.{◌≡◌, ℕ, zero, suc, ◌+◌, ◌-◌, ◌*◌, ◌<◌, ◌≤◌, min, true, false, ◌⊎◌, List, [], length, length-take-le, get_or, take, drop, fold, sym, ap, ◌∙◌, subst, inl, inr, ⊎_elim, arith, take_all, take-take, take-add, drop-drop, length-drop}
 use Rattle.std.proofs.Math.Nat.{zero-mul}
 use Rattle.std.proofs.lemmas.Simd.{length-chunk}
 use Rattle.std.proofs.lemmas.Bool.{cases_lt, lt-leb, le-leb}
@@ -9,6 +9,7 @@ use Rattle.std.proofs.lemmas.List.Sums.{fold-append}
 use Rattle.std.specs.ControlFlow.{MatchControlFlow, IsBreakAnd}
 use Rattle.std.specs.declared.ops.ControlFlow.{ControlFlow}
 use Rattle.std.specs.declared.ops.ControlFlow.TheVariants.{Continue, Break}
+use Rattle.std.specs.List.{IsSplitAt}
 use Rattle.std.specs.Simd.{first_chunks}
 use Rattle.cutting.specs.Rule.{next, number_after_all, ends}
 use Rattle.cutting.specs.Finds.{is_end, NoEndBefore, Finds}
@@ -16,11 +17,14 @@ use Rattle.cutting.specs.Results.{FirstPiece}
 use Rattle.cutting.proofs.Cuts.{first_piece}
 
 -- one of the first k chunks of n elements
-pub chunk_at : {X : Type 0} (n k i : ℕ) (xs d : List X) → i < k → get_or (first_chunks n k xs) i d ≡ take n (drop (i * n) xs)
-chunk_at n zero i xs d h = elim h [ ]
-chunk_at n (suc k) zero xs d h = rw zero-mul
-chunk_at n (suc k) (suc i) xs d h =
-    chunk_at n k i (drop n xs) d (omega arith) ∙ ap (take n) (drop-drop (i * n) n xs) ∙ ap (λ (m : ℕ). take n (drop m xs)) (omega arith)
+chunk : {X : Type 0} (n k i : ℕ) (xs d : List X) → i < k → get_or (first_chunks n k xs) i d ≡ take n (drop (i * n) xs)
+chunk n zero i xs d h = elim h [ ]
+chunk n (suc k) zero xs d h = rw zero-mul
+chunk n (suc k) (suc i) xs d h =
+    chunk n k i (drop n xs) d (omega arith) ∙ ap (take n) (drop-drop (i * n) n xs) ∙ ap (λ (m : ℕ). take n (drop m xs)) (omega arith)
+
+pub chunk_at : (n k i : ℕ) (xs : List ℕ) (chunks : List (List ℕ)) → chunks ≡ first_chunks n k xs → i < k → get_or chunks i [] ≡ take n (drop (i * n) xs)
+chunk_at n k i xs chunks are h = ap (λ (l : List (List ℕ)). get_or l i []) are ∙ chunk n k i xs [] h
 
 -- the piece has not ended with fewer bytes than those up to a place, and there the number is this
 pub record Reached (n : ℕ) (bytes : List ℕ) (at number : ℕ) : Type 0 where
@@ -85,21 +89,28 @@ ends_between size n enough few = rw (lt-leb 65536 size few, le-leb 2048 size eno
 ends_full : (size n : ℕ) → 65536 ≤ size → ends size n ≡ true
 ends_full size n full = rw (le-leb 65536 size full)
 
+-- a rest of fewer than 2,048 bytes is one piece
+pub short_first : (file : List ℕ) (most : ℕ) → most ≡ min (length file) 65536 → length (take most file) < 2048 → 0 < length file → (0 < most) × FirstPiece file most
+short_first file most latest short some =
+    let size = length-take-le most file (omega arith) in
+    (omega arith, first_piece file most (omega arith) (omega arith) (λ j low high. absurd (omega arith)) (inl (omega arith)))
+
 -- what is found after the first 2,048 bytes of a file, up to where its piece ends at the latest
-module _ (file : List ℕ) (most start : ℕ) (more : List ℕ) (latest : most ≡ min (length file) 65536) (enough : 2048 ≤ most) (first : start ≡ number_after_all (take 2048 (take most file))) (then : more ≡ drop 2048 (take most file)) where
+module _ (file : List ℕ) (most start : ℕ) (least more : List ℕ) (latest : most ≡ min (length file) 65536) (split : IsSplitAt (take most file) 2048 least more) (first : start ≡ number_after_all least) where
+  enough : 2048 ≤ most
+  enough = omega (arith, length-take-le most file (omega arith))
+
   started : start ≡ number_after_all (take 2048 file)
-  started = first ∙ ap number_after_all (take-take 2048 most file enough)
+  started = first ∙ ap number_after_all (split.1 ∙ take-take 2048 most file enough)
 
   part : more ≡ take (most - 2048) (drop 2048 file)
   part =
+      let whole = enough in
       let is : 2048 + (most - 2048) ≡ most = omega arith in
-      then ∙ ap (λ (m : ℕ). drop 2048 (take m file)) (sym is) ∙ drop-take 2048 (most - 2048) file
+      split.2 ∙ ap (λ (m : ℕ). drop 2048 (take m file)) (sym is) ∙ drop-take 2048 (most - 2048) file
 
   number_there : (j : ℕ) → 2048 + j ≤ most → fold next start (take j more) ≡ number_after_all (take (2048 + j) file)
   number_there j le = ap (λ (p : List ℕ). fold next start (take j p)) part ∙ number_on 0 start 2048 (most - 2048) j file started (omega arith)
-
-  many : length more ≡ most - 2048
-  many = ap length part ∙ length-chunk 2048 (most - 2048) file (omega arith)
 
   none_there : (k : ℕ) → 2048 + k ≤ most → NoEndBefore start more k → (j : ℕ) → j < 2048 + k → 2048 ≤ j → ends j (number_after_all (take j file)) ≡ false
   none_there k le none j short long =
@@ -109,17 +120,19 @@ module _ (file : List ℕ) (most start : ℕ) (more : List ℕ) (latest : most �
       ∙ ap is_end (sym (number_there (j - 2048) (omega arith)))
       ∙ none (j - 2048) (omega arith)
 
-  pub first_found : (k : ℕ) → Finds start more (Break k) → FirstPiece file (2048 + k)
+  many : 2048 + length more ≡ most
+  many = omega (arith, length-take-le most file (omega arith))
+
+  pub first_found : (k : ℕ) → Finds start more (Break k) → (0 < 2048 + k) × FirstPiece file (2048 + k)
   first_found k found =
       let size = many in
       let here = ends_between (2048 + k) _ (omega arith) (omega arith) ∙ ap is_end (sym (number_there k (omega arith))) ∙ found.2 in
-      first_piece file (2048 + k) (omega arith) (omega arith) (none_there k (omega arith) found.1) (inr here)
+      (omega arith, first_piece file (2048 + k) (omega arith) (omega arith) (none_there k (omega arith) found.1) (inr here))
 
-  pub first_at_most : (after : ℕ) → Finds start more (Continue after) → FirstPiece file most
+  pub first_at_most : (after : ℕ) → Finds start more (Continue after) → (0 < most) × FirstPiece file most
   first_at_most after found =
       let size = many in
-      let none : NoEndBefore start more (most - 2048) = λ j short. found.0 j (omega arith) in
       let end : (most ≡ length file) ⊎ (ends most (number_after_all (take most file)) ≡ true) =
       ⊎_elim (λ (all : length file < 65536). inl (omega arith)) (λ (full : 65536 ≤ length file). inr (ends_full most _ (omega arith))) (cases_lt (length file) 65536)
       in
-      first_piece file most (omega arith) (omega arith) (λ j short long. none_there (most - 2048) (omega arith) none j (omega arith) long) end
+      (omega arith, first_piece file most (omega arith) (omega arith) (λ j short long. none_there (length more) (omega arith) found.0 j (omega arith) long) end)

@@ -1,6 +1,6 @@
 -- What the calls of this crate answer.
 -- Assumes nothing.
-use Rattle.std.specs.Prelude.{◌≡◌, ℕ, ◌<◌, ◌≤◌, List, [], ◌∷◌, length, take, drop, Some, Ok, Err, vec_items, Result, Vec}
+use Rattle.std.specs.Prelude.{◌≡◌, ℕ, ◌<◌, ◌≤◌, List, ◌∷◌, map, length, take, drop, Some, Ok, Err, vec_items, Result, Vec}
 use Rattle.std.specs.Borrow.{Bor}
 use Rattle.std.specs.declared.alloc.Global.{Global}
 use Rattle.cutting.specs.declared.refusal.Refusal.{Refusal}
@@ -15,8 +15,7 @@ FirstPiece rest n = pieces rest ≡ take n rest ∷ pieces (drop n rest)
 
 -- what slices hold, one by one
 unfoldable pub contents : List (Bor (List ℕ)) → List (List ℕ)
-contents [] = []
-contents (p ∷ ps) = p.now ∷ contents ps
+contents ps = map (λ p. p.now) ps
 
 -- a file of so many bytes is refused, by number 1
 abbrev pub TooLong : ℕ → Refusal → Type 0
