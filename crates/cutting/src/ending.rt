@@ -15,9 +15,9 @@ const LEAST_IN_PIECE: usize = 2_048;
 // So many bytes are looked at in a turn of the loop of `find_end_by_blocks`. With one byte a turn its speed hung on where in memory it was placed.
 const BLOCK: usize = 8;
 
-// Looks for the end of a piece in its next bytes, before which the number is this. Breaks with how many of them the piece still has, if it ends with
-// fewer than all; else goes on with the number after all.
-// A `for`, and no `try_fold`, which has 0.76 of plain Rust's speed in place of 0.97.
+// Looks for the end of a piece in its next bytes, before which the number is this. It has 2,048 bytes by then, and ends where the highest 13 bits of the
+// number are 0. Breaks with how many of these bytes are still in the piece, if fewer than all; else goes on with the number after all.
+// A `for`, since `try_fold` has 0.76 of plain Rust's speed here, and this has 0.97.
 fn find_end(mut number: u32, bytes: &[u8]) -> ControlFlow<usize, u32>
     ensures { Finds number bytes.now result }
 {

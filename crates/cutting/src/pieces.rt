@@ -60,6 +60,7 @@ impl<'a> Iterator for Pieces<'a> {
 pub fn cut<'a>(heap: Global, file: &'a [u8]) -> Result<Vec<&'a [u8]>, Refusal>
     ensures { Cut file.now result }
 {
+    // a `for`, since the contract of `collect` does not say that it fails only where there are items: here, that a file without bytes is always cut
     let mut found = Vec::new(heap);
     for piece in Pieces::new(file)? {
         found.push(piece)?;
