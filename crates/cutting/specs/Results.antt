@@ -4,7 +4,7 @@ use Rattle.std.specs.Prelude.{◌≡◌, ℕ, ◌<◌, ◌≤◌, List, ◌∷�
 use Rattle.std.specs.Borrow.{Bor}
 use Rattle.std.specs.declared.alloc.Global.{Global}
 use Rattle.cutting.specs.declared.refusal.Refusal.{Refusal}
-use Rattle.cutting.specs.declared.refusal.Refusal.TheVariants.{FileTooLong, Unknown, BadDay, MakesDay, MakesNone, NotAtThatPoint, TooManyNames, LastNumber, NoMemory, ReadOrWrite}
+use Rattle.cutting.specs.declared.refusal.Refusal.TheVariants.{FileTooLong, NoMemory}
 use Rattle.cutting.specs.Rule.{most_in_file, pieces}
 use Rattle.cutting.specs.Promise.{Promise}
 use Rattle.cutting.specs.Refusals.{number_of}

@@ -17,7 +17,6 @@ const BLOCK: usize = 8;
 
 // Looks for the end of a piece in its next bytes, before which the number is this. It has 2,048 bytes by then, and ends where the highest 13 bits of the
 // number are 0. Breaks with how many of these bytes are still in the piece, if fewer than all; else goes on with the number after all.
-// A `for`, since `try_fold` has 0.76 of plain Rust's speed here, and this has 0.97.
 fn find_end(mut number: u32, bytes: &[u8]) -> ControlFlow<usize, u32>
     ensures { Finds number bytes.now result }
 {
@@ -30,7 +29,7 @@ fn find_end(mut number: u32, bytes: &[u8]) -> ControlFlow<usize, u32>
     ControlFlow::Continue(number)
 }
 
-// The same, a block at a time.
+// The same, a block at a time. By a `for`, since with `try_fold` over the blocks it has 0.76 of plain Rust's speed, and so 0.97.
 fn find_end_by_blocks(mut number: u32, bytes: &[u8]) -> ControlFlow<usize, u32>
     ensures { Finds number bytes.now result }
 {

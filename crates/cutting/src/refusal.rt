@@ -4,8 +4,7 @@ ghost use Rattle.cutting.specs.declared.refusal.Refusal.TheVariants.{NoMemory};
 ghost use Rattle.cutting.specs.Refusals.{number_of, rank, lowest, words, refusal_text};
 
 use std::alloc::{AllocError, AllocFailed};
-use std::cmp;
-use std::fmt;
+use std::{cmp, fmt};
 
 #[derive(Clone, Copy, Debug, PartialEq, Eq)]
 pub enum Refusal {

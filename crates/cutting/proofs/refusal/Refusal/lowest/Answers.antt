@@ -3,7 +3,7 @@ use Rattle.std.specs.Prelude.{nat_le}
 use Rattle.std.specs.Ordering.{ord_min, on, is_lt, nat_cmp}
 use Rattle.std.proofs.lemmas.Grind.{common_steps}
 use Rattle.std.proofs.lemmas.List.Sorted.{answers_always}
-use Rattle.cutting.specs.Refusals.{rank, lowest}
+use Rattle.cutting.specs.Refusals.{rank}
 use Rattle.cutting.proofs.refusal.Refusal.lowest.Goals as goal
 
 -- of two with these ranks, the one that is not later
