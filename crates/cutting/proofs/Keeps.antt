@@ -4,24 +4,25 @@ use Rattle.std.proofs.Common.{◌≡◌, ℕ, zero, suc, ◌+◌, ◌<◌, ◌�
 use Rattle.std.proofs.Math.Seq.{drop-append-add}
 use Rattle.std.proofs.lemmas.List.{drop-append-le}
 use Rattle.std.proofs.lemmas.Bool.{cases_Bool, cond_both, leb-true, leb-false, or_cases, or_parts, and_parts}
+use Rattle.std.specs.List.{concat}
 use Rattle.cutting.specs.Rule.{next, ends, ended, cut_from, pieces}
-use Rattle.cutting.specs.Promise.{joined, Sizes, From, Promise}
+use Rattle.cutting.specs.Promise.{Sizes, From, Promise}
 use Rattle.cutting.proofs.Cuts.{one_byte, after_true, after_false, some_cut}
 
-joined-ended : (before : List ℕ) → joined (ended before) ≡ before
-unfolding joined ended
-joined-ended [] = refl
-joined-ended (b ∷ bs) = append-nil (b ∷ bs)
+concat-ended : (before : List ℕ) → concat (ended before) ≡ before
+unfolding ended
+concat-ended [] = refl
+concat-ended (b ∷ bs) = append-nil (b ∷ bs)
 
 -- the pieces from here on, joined, are the begun piece and what is left of the file
-joined_cut : (n : ℕ) (before bs : List ℕ) → joined (cut_from n before bs) ≡ before ++ bs
-unfolding joined cut_from
-joined_cut n before [] = joined-ended before ∙ sym (append-nil before)
-joined_cut n before (b ∷ bs) =
+concat_cut : (n : ℕ) (before bs : List ℕ) → concat (cut_from n before bs) ≡ before ++ bs
+unfolding cut_from
+concat_cut n before [] = concat-ended before ∙ sym (append-nil before)
+concat_cut n before (b ∷ bs) =
     let longer = before ++ (b ∷ []) in
-    cond_both (ends (length before + 1) (next n b)) _ _ (λ (ps : List (List ℕ)). joined ps ≡ before ++ (b ∷ bs))
-    (λ _. ap (λ (l : List ℕ). longer ++ l) (joined_cut (next n b) [] bs) ∙ append_assoc before (b ∷ []) bs)
-    (λ _. joined_cut (next n b) longer bs ∙ append_assoc before (b ∷ []) bs)
+    cond_both (ends (length before + 1) (next n b)) _ _ (λ (ps : List (List ℕ)). concat ps ≡ before ++ (b ∷ bs))
+    (λ _. ap (λ (l : List ℕ). longer ++ l) (concat_cut (next n b) [] bs) ∙ append_assoc before (b ∷ []) bs)
+    (λ _. concat_cut (next n b) longer bs ∙ append_assoc before (b ∷ []) bs)
 
 sizes-cons : (p : List ℕ) (ps : List (List ℕ)) → 1 ≤ length p → length p ≤ 65536 → (0 < length ps → 2048 ≤ length p) → Sizes ps → Sizes (p ∷ ps)
 sizes-cons p ps low high enough s = record {
@@ -61,8 +62,8 @@ sizes_cut n before (b ∷ bs) h =
     sizes_cut (next n b) longer bs (omega arith))
 
 -- where a piece has ended, the other pieces are those of the rest of the file
-others_are : (file : List ℕ) (firsts others : List (List ℕ)) → pieces file ≡ firsts ++ others → others ≡ pieces (drop (length (joined firsts)) file)
-unfolding joined cut_from ended
+others_are : (file : List ℕ) (firsts others : List (List ℕ)) → pieces file ≡ firsts ++ others → others ≡ pieces (drop (length (concat firsts)) file)
+unfolding cut_from ended
 others_are file [] others h = sym h
 others_are [] (f ∷ fs) others h = cc
 others_are (b ∷ bs) (f ∷ fs) others h =
@@ -72,9 +73,9 @@ others_are (b ∷ bs) (f ∷ fs) others h =
     let first : f ≡ b ∷ take k bs = cc in
     let rest : pieces (drop k bs) ≡ fs ++ others = cc in
     let long : length f ≡ suc k = ap length first ∙ ap suc (length-take-le k bs cut.1) in
-    let size : length (f ++ joined fs) ≡ suc (k + length (joined fs)) = length-append f (joined fs) ∙ omega arith in
+    let size : length (f ++ concat fs) ≡ suc (k + length (concat fs)) = length-append f (concat fs) ∙ omega arith in
     others_are (drop k bs) fs others rest
-    ∙ ap pieces (drop-drop (length (joined fs)) k bs)
+    ∙ ap pieces (drop-drop (length (concat fs)) k bs)
     ∙ ap (λ (j : ℕ). pieces (drop j (b ∷ bs))) (sym size)
 
 -- a begun piece stays in the piece that it becomes, and gets longer where there are more bytes
@@ -111,17 +112,16 @@ same_first n before (b ∷ bs) end other f rest h inside early =
     (cases_Bool (ends (length longer) (next n b)))
 
 -- and so do all pieces before it
-begins_same : (stretch end other : List ℕ) (firsts others : List (List ℕ)) → pieces (stretch ++ end) ≡ firsts ++ others → length (joined firsts) ≤ length stretch → length (joined firsts) < length (stretch ++ end) → (theirs : List (List ℕ)) × (pieces (stretch ++ other) ≡ firsts ++ theirs)
-unfolding joined
+begins_same : (stretch end other : List ℕ) (firsts others : List (List ℕ)) → pieces (stretch ++ end) ≡ firsts ++ others → length (concat firsts) ≤ length stretch → length (concat firsts) < length (stretch ++ end) → (theirs : List (List ℕ)) × (pieces (stretch ++ other) ≡ firsts ++ theirs)
 begins_same stretch end other [] others h inside early = (pieces (stretch ++ other), refl)
 begins_same stretch end other (f ∷ fs) others h inside early =
-    let parts = length-append f (joined fs) in
+    let parts = length-append f (concat fs) in
     let fits : length f ≤ length stretch = omega arith in
     let left = drop (length f) stretch in
     let size = length-drop (length f) stretch in
     let whole = length-append stretch end in
     let rest = length-append left end in
-    let one : joined (f ∷ []) ≡ f = append-nil f in
+    let one : concat (f ∷ []) ≡ f = append-nil f in
     let along : (tail : List ℕ) (ps : List (List ℕ)) → pieces (stretch ++ tail) ≡ f ∷ ps → ps ≡ pieces (left ++ tail) =
     λ tail ps e.
     others_are (stretch ++ tail) (f ∷ []) ps e
@@ -143,12 +143,12 @@ from_place front stretch k others h =
 pub promised : (file : List ℕ) (ps : List (List ℕ)) → ps ≡ pieces file → Promise file ps
 promised file ps is = record {
   rule = is;
-  whole = ap joined is ∙ joined_cut 0 [] file;
+  whole = ap concat is ∙ concat_cut 0 [] file;
   sizes = subst Sizes (sym is) (sizes_cut 0 [] file (omega arith));
   in_step = λ front stretch other k mine theirs e a b.
       let same : ps ≡ pieces (front ++ stretch) = is ∙ ap pieces e in
       from_place front stretch k mine (record { firsts = a.firsts; all = sym same ∙ a.all; here = a.here })
       ∙ sym (from_place other stretch k theirs b);
   same_begin = λ stretch end other firsts others e all inside early.
-      begins_same stretch end other firsts others (sym (is ∙ ap pieces e) ∙ all) inside (subst (λ (l : List ℕ). length (joined firsts) < length l) e early);
+      begins_same stretch end other firsts others (sym (is ∙ ap pieces e) ∙ all) inside (subst (λ (l : List ℕ). length (concat firsts) < length l) e early);
 }

@@ -1,7 +1,8 @@
 -- The number that goes along a file has only its last 32 bytes in it.
 -- Assumes nothing.
-use Rattle.std.proofs.Common.{◌≡◌, ℕ, suc, ◌+◌, ◌-◌, ◌*◌, ◌/◌, ◌%◌, ◌^◌, ◌<◌, ◌≤◌, List, [], ◌∷◌, ◌++◌, length, take, drop, fold, sym, ap, ◌∙◌, ⊎_elim, add-zero, add_assoc, mod-lt, mod-eq_of_lt, mul_assoc, mul_comm, add-mul, pow-suc, mul-one, arith, lit<, length-drop, take-append-drop, pow-add}
-use Rattle.std.proofs.Math.Nat.{div-add-mod, mul-add-mod_self_left}
+use Rattle.std.proofs.Common.{◌≡◌, ℕ, suc, ◌+◌, ◌-◌, ◌*◌, ◌%◌, ◌^◌, ◌<◌, ◌≤◌, List, [], ◌∷◌, ◌++◌, length, take, drop, fold, sym, ap, ◌∙◌, ⊎_elim, add-zero, add_assoc, mod-lt, mod-eq_of_lt, mul_assoc, mul_comm, add-mul, pow-suc, mul-one, arith, lit<, length-drop, take-append-drop, pow-add}
+use Rattle.std.proofs.Math.Nat.{mod-add-mod, mul-add-mod_self_left}
+use Rattle.std.proofs.lemmas.Nat.{mul-mod_first}
 use Rattle.std.proofs.lemmas.Bool.{cases_lt}
 use Rattle.std.proofs.lemmas.List.Sums.{fold-append}
 use Rattle.cutting.specs.Rule.{next, number_after_all}
@@ -14,11 +15,7 @@ weight (b ∷ bs) = b * 2654435761 * 2 ^ length bs + weight bs
 -- a factor may be reduced before
 mod_times : (m x p s : ℕ) → (x % m * p + s) % m ≡ (x * p + s) % m
 mod_times m x p s =
-    let whole : x * p + s ≡ m * (x / m * p) + (x % m * p + s) =
-    ap (λ (y : ℕ). y * p + s) (sym (div-add-mod x m)) ∙ ap (λ (y : ℕ). y + s) (add-mul (m * (x / m)) (x % m) p) ∙ add_assoc _ _ _
-    ∙ ap (λ (y : ℕ). y + (x % m * p + s)) (mul_assoc m (x / m) p)
-    in
-    sym (ap (λ (y : ℕ). y % m) whole ∙ mul-add-mod_self_left m (x / m * p) (x % m * p + s))
+    sym (mod-add-mod (x % m * p) m s) ∙ ap (λ (y : ℕ). (y + s) % m) (mul-mod_first x p m) ∙ mod-add-mod (x * p) m s
 
 -- the number from n on: n weighs twice as much with each byte
 expanded : (n : ℕ) (bs : List ℕ) → fold next n bs % 2 ^ 32 ≡ (n * 2 ^ length bs + weight bs) % 2 ^ 32

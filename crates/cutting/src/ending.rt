@@ -1,10 +1,10 @@
 // Where a piece ends.
-ghost use Rattle.std.specs.Prelude.{◌≡◌, ◌+◌, ◌^◌, ◌<◌, ◌≤◌, length};
-ghost use Rattle.cutting.specs.Rule.{ends};
-ghost use Rattle.cutting.specs.Results.{FirstPiece};
+ghost use Rattle.std.specs.Prelude.{◌+◌, ◌<◌, ◌≤◌, length};
 ghost use Rattle.cutting.specs.Finds.{Finds};
+ghost use Rattle.cutting.specs.Results.{FirstPiece};
 
 use crate::number::{next_number, number_after};
+use std::ops::ControlFlow;
 
 // A piece has at most so many bytes.
 const MOST_IN_PIECE: usize = 65_536;
@@ -12,39 +12,32 @@ const MOST_IN_PIECE: usize = 65_536;
 // And at least so many, unless the file ends with it.
 const LEAST_IN_PIECE: usize = 2_048;
 
-// So many bytes are looked at in a turn of the loop of `piece_length`. With one byte a turn its speed hung on where in memory it was placed.
+// So many bytes are looked at in a turn of the loop of `find_end_by_blocks`. With one byte a turn its speed hung on where in memory it was placed.
 const BLOCK: usize = 8;
 
-// Does a piece end with the byte with which it has this size and after which the number is this?
-fn ends_piece(size: usize, number: u32) -> bool
-    ensures { result ≡ ends size number }
-{
-    let full = size >= MOST_IN_PIECE;
-    let enough = size >= LEAST_IN_PIECE;
-    full || enough && number >> 19 == 0
-}
-
-// What is found in the next bytes of a piece.
-#[derive(Clone, Copy)]
-enum Found {
-    // the piece ends with so many of them, fewer than all
-    End(usize),
-    // it does not end with fewer than all, and this is the number after all
-    NoEnd(u32),
-}
-
-// Where a piece ends in its next bytes. Before them it has this size, and the number is this.
-fn find_end(size: usize, mut number: u32, bytes: &[u8]) -> Found
-    requires { size + length bytes.now < 2 ^ 64 }
-    ensures { Finds size number bytes.now result }
+// Looks for the end of a piece in its next bytes, before which the number is this. It has 2,048 bytes by then, and ends where the highest 13 bits of the
+// number are 0. Breaks with how many of these bytes are still in the piece, if fewer than all; else goes on with the number after all.
+fn find_end(mut number: u32, bytes: &[u8]) -> ControlFlow<usize, u32>
+    ensures { Finds number bytes.now result }
 {
     for (added, byte) in bytes.iter().enumerate() {
-        if ends_piece(size + added, number) {
-            return Found::End(added);
+        if number >> 19 == 0 {
+            return ControlFlow::Break(added);
         }
         number = next_number(number, *byte);
     }
-    Found::NoEnd(number)
+    ControlFlow::Continue(number)
+}
+
+// The same, a block at a time. By a `for`, since with `try_fold` over the blocks it has 0.76 of plain Rust's speed, and so 0.97.
+fn find_end_by_blocks(mut number: u32, bytes: &[u8]) -> ControlFlow<usize, u32>
+    ensures { Finds number bytes.now result }
+{
+    let (blocks, last) = bytes.as_chunks::<BLOCK>();
+    for (turn, block) in blocks.iter().enumerate() {
+        number = find_end(number, block).map_break(|added| turn * BLOCK + added)?;
+    }
+    find_end(number, last).map_break(|added| blocks.len() * BLOCK + added)
 }
 
 // How many bytes the first piece of the rest of a file has. Of the 2,048 bytes before it may end only the last 32 are read, by `number_after`.
@@ -53,22 +46,12 @@ pub fn piece_length(rest: &[u8]) -> usize
     ensures within { result ≤ length rest.now }
     ensures first { 0 < length rest.now → (0 < result) × FirstPiece rest.now result }
 {
-    if rest.len() < LEAST_IN_PIECE {
-        return rest.len();
-    }
-    let mut size = LEAST_IN_PIECE;
-    let mut number = number_after(&rest[0..size]);
-    // no block goes beyond 65,536 bytes: so the compiler leaves the test for that size out of the loop
     let most = rest.len().min(MOST_IN_PIECE);
-    while size + BLOCK <= most {
-        match find_end(size, number, &rest[size..size + BLOCK]) {
-            Found::End(added) => return size + added,
-            Found::NoEnd(after) => number = after,
-        }
-        size += BLOCK;
-    }
-    match find_end(size, number, &rest[size..]) {
-        Found::End(added) => size + added,
-        Found::NoEnd(_) => rest.len(),
+    let Some((least, more)) = rest[..most].split_at_checked(LEAST_IN_PIECE) else {
+        return most;
+    };
+    match find_end_by_blocks(number_after(least), more) {
+        ControlFlow::Break(added) => LEAST_IN_PIECE + added,
+        ControlFlow::Continue(_) => most,
     }
 }

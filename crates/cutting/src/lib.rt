@@ -2,7 +2,6 @@
 #![tactic(auto)]
 
 mod ending;
-mod exports;
 mod number;
 mod pieces;
 mod refusal;
@@ -10,7 +9,6 @@ mod refusal;
 mod tests;
 
 pub use ending::piece_length;
-pub use exports::zeltuva_piece_length;
 pub use number::number_after;
 pub use pieces::{Pieces, check_length, cut};
 pub use refusal::Refusal;

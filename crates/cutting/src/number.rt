@@ -20,9 +20,7 @@ pub fn number_after(bytes: &[u8]) -> u32
     ensures window { (front end : List ℕ) → bytes.now ≡ front ++ end → 32 ≤ length end → result ≡ number_after_all end }
 {
     let (_, window) = bytes.split_at(bytes.len().saturating_sub(WINDOW));
-    let mut number = 0;
-    for byte in window {
-        number = next_number(number, *byte);
-    }
-    number
+    window
+        .iter()
+        .fold(0, |number, byte| next_number(number, *byte))
 }

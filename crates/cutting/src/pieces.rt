@@ -26,11 +26,12 @@ pub fn check_length(length: u64) -> Result<(), Refusal>
 pub struct Pieces<'a> {
     // what follows the pieces so far
     rest: &'a [u8],
+    ghost short: { length rest.now ≤ most_in_file },
 }
 
 impl<'a> Pieces<'a> {
     pub fn new(file: &'a [u8]) -> Result<Pieces<'a>, Refusal>
-        ensures { MatchResult result (λ p. (p.rest.now ≡ file.now) × (length file.now ≤ most_in_file)) (TooLong (length file.now)) }
+        ensures { MatchResult result (λ p. p.rest.now ≡ file.now) (TooLong (length file.now)) }
     {
         check_length(file.len() as u64)?;
         Ok(Pieces { rest: file })
@@ -59,6 +60,7 @@ impl<'a> Iterator for Pieces<'a> {
 pub fn cut<'a>(heap: Global, file: &'a [u8]) -> Result<Vec<&'a [u8]>, Refusal>
     ensures { Cut file.now result }
 {
+    // a `for`, since the contract of `collect` does not say that it fails only where there are items: here, that a file without bytes is always cut
     let mut found = Vec::new(heap);
     for piece in Pieces::new(file)? {
         found.push(piece)?;

@@ -4,9 +4,9 @@ ghost use Rattle.cutting.specs.declared.refusal.Refusal.TheVariants.{NoMemory};
 ghost use Rattle.cutting.specs.Refusals.{number_of, rank, lowest, words, refusal_text};
 
 use std::alloc::{AllocError, AllocFailed};
-use std::fmt;
+use std::{cmp, fmt};
 
-#[derive(Clone, Copy)]
+#[derive(Clone, Copy, Debug, PartialEq, Eq)]
 pub enum Refusal {
     // 1: limits, and names that there are not
     FileTooLong,
@@ -54,11 +54,7 @@ impl Refusal {
     pub fn lowest(self, other: Refusal) -> Refusal
         ensures { result ≡ lowest self other }
     {
-        if self.rank() <= other.rank() {
-            self
-        } else {
-            other
-        }
+        cmp::min_by_key(self, other, |refusal| refusal.rank())
     }
 
     // What it says.

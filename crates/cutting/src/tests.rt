@@ -71,6 +71,10 @@ fn too_long_a_file_is_refused(rt: HostRuntime) -> Result<(), Fail> {
         return Err(Fail::new("it is cut"));
     };
     assert!(rt; refusal.number() == Some(1), "by number 1");
+    assert!(rt;
+        refusal == Refusal::FileTooLong,
+        "as a file that is too long"
+    );
     Ok(())
 }
 

@@ -12,5 +12,5 @@ pub extern "C" fn zeltuva_piece_length(rest: &[u8]) -> usize
     ensures within { result ≤ length rest.now }
     ensures first { 0 < length rest.now → (0 < result) × FirstPiece rest.now result }
 {
-    cutting::zeltuva_piece_length(rest)
+    cutting::piece_length(rest)
 }

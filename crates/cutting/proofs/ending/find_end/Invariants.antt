@@ -5,4 +5,4 @@ use Rattle.cutting.proofs.ending.find_end.Given as goal
 
 abbrev pub invariant-loop-added : goal.invariant-loop-added
 invariant-loop-added l =
-    (l.number ≡ fold next l.initial.number (take l.added l.bytes)) × NoEndBefore l.size l.initial.number l.bytes l.added
+    (l.number ≡ fold next l.initial.number (take l.added l.bytes)) × NoEndBefore l.initial.number l.bytes l.added

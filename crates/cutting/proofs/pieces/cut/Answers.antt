@@ -1,7 +1,7 @@
-use Rattle.std.proofs.Common.{◌≡◌, ℕ, List, [], ◌∷◌, ◌++◌, vec_items, sym, refl, ap, ◌∙◌, append-nil, Bor, arith}
+use Rattle.std.proofs.Common.{◌≡◌, ℕ, List, [], ◌∷◌, ◌++◌, vec_items, length, ◌≤◌, sym, refl, ap, ◌∙◌, subst, append-nil, Bor, arith}
 use Rattle.std.proofs.lemmas.Grind.{common_steps}
 use Rattle.std.proofs.lemmas.Slice.{pushed}
-use Rattle.cutting.specs.Rule.{cut_from, ended, pieces}
+use Rattle.cutting.specs.Rule.{most_in_file, cut_from, ended, pieces}
 use Rattle.cutting.specs.Results.{contents}
 use Rattle.cutting.proofs.Collected.{has_bytes, no_memory, one_more}
 use Rattle.cutting.proofs.Keeps.{promised}
@@ -22,11 +22,13 @@ loop-piece-preserved c =
 pub returns-in_err-push : goal.returns-in_err-push
 returns-in_err-push c =
     let some = has_bytes c.args.file.now _ _ _ _ c.loop-piece.invariant c.in-Some.ensures.steps in
-    no_memory c.args.file.now _ some c.in_ok-piece-items.ensures.1 c.from_residual-in_err-push.ensures.1
+    let few = subst (λ (l : List ℕ). length l ≤ most_in_file) c.in_ok-piece-items.ensures c.in_ok-piece-items.piece-items.short in
+    no_memory c.args.file.now _ some few c.from_residual-in_err-push.ensures.1
 
 pub returns : goal.returns
 unfolding cut_from ended
 returns c =
     let found = contents (vec_items c.loop-piece.found) in
     let all : pieces c.args.file.now ≡ found = c.loop-piece.invariant ∙ ap (λ (l : List ℕ). found ++ pieces l) c.in-None.ensures.steps.0 ∙ append-nil found in
-    (c.in_ok-piece-items.ensures.1, promised c.args.file.now found (sym all))
+    let few = subst (λ (l : List ℕ). length l ≤ most_in_file) c.in_ok-piece-items.ensures c.in_ok-piece-items.piece-items.short in
+    (few, promised c.args.file.now found (sym all))
