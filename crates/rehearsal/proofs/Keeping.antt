@@ -1,41 +1,46 @@
--- A line that is kept, or is no more.
+-- The ends of lines.
 -- Assumes nothing.
-use Rattle.std.proofs.Common.{◌≡◌, ℕ, ◌-◌, ◌<◌, ◌≤◌, true, List, [], ◌∷◌, ◌++◌, length, get_or, take, drop, is_err, Ok, Err, vec_len, Result, sym, refl, ap, ◌∙◌, subst, true≢false, not-suc-le-zero, arith, length-append, length-take, get_or-take, MatchResult}
-use Rattle.rehearsal.specs.declared.pending.Pending.{Pending}
-use Rattle.rehearsal.specs.declared.pending.State.{State}
-use Rattle.rehearsal.specs.declared.pending.State.TheVariants as state
-use Rattle.rehearsal.specs.Answers.{most, Kept, Holds, OneLine}
+use Rattle.std.proofs.Common.{◌≡◌, ℕ, suc, ◌+◌, ◌-◌, ◌<◌, Bool, true, false, cond, nat_eq, List, [], ◌∷◌, ◌++◌, length, get_or, take, drop, Some, None, Option, unwrap_or, sym, refl, ap, ◌∙◌, zero-le, arith, get_or-take, length-take, take-append-drop, drop-cons, MatchOption, Bor}
+use Rattle.std.specs.Cmp.Lexicographic.{pointwise}
+use Rattle.std.specs.List.{AllWithin, HoldsAt}
+use Rattle.std.proofs.lemmas.List.{drop_all}
+use Rattle.std.proofs.lemmas.Bool.{lt-ltb}
+use Rattle.std.proofs.Math.Bool.{and-true}
+use Rattle.rehearsal.specs.Answers.{chomped}
+use Rattle.rehearsal.specs.Pendings.{OneLine}
 
--- it becomes too long
-pub becomes_long : (p : Pending) (l part : List ℕ) → p.state ≡ state.Whole → 67108864 - vec_len p.line < length part → Holds p l → most < length (l ++ part)
-becomes_long p l part e over h =
-    let kept = subst (Kept p l) e h in
-    let size = ap length (sym kept.0) ∙ sym p.line.ok.0 in
-    rw length-append (omega (arith, size, over))
+chomped_by : (l : List ℕ) (b : Bool) → 0 < length l → nat_eq (get_or l (length l - 1) 0) 13 ≡ b → chomped l ≡ cond b (take (length l - 1) l) l
+unfolding chomped
+chomped_by l b some e = rw (lt-ltb 0 (length l) some, e) refl
 
--- what is said of an error holds where there is one
-pub at_error : {T E Q : Type 0} (P : T → Type 0) (r : Result T E) → is_err r ≡ true → MatchResult r P (λ _. Q) → Q
-at_error P (Ok x) e h = absurd (true≢false (sym e))
-at_error P (Err x) e h = h
+return_last : (l : List ℕ) → 0 < length l → pointwise nat_eq (drop (length l - 1) l) (13 ∷ []) ≡ nat_eq (get_or l (length l - 1) 0) 13
+return_last l some =
+    let x = get_or l (length l - 1) 0 in
+    let one : drop (length l - 1) l ≡ x ∷ [] = drop-cons l (length l - 1) 0 (omega arith) ∙ ap (λ ys. x ∷ ys) (drop_all (suc (length l - 1)) l (omega arith)) in
+    ap (λ ys. pointwise nat_eq ys (13 ∷ [])) one ∙ and-true (nat_eq x 13)
 
-stays_so : (p : Pending) (l part : List ℕ) (s : State) → (s ≡ state.Whole → ⊥) → Kept p l s → Kept p (l ++ part) s
-stays_so p l part state.Whole n h = absurd (n refl)
-stays_so p l part state.TooLong n h = rw length-append (omega arith)
-stays_so p l part state.NoMemory n h = rw length-append (omega arith)
+-- a line without the carriage return that may be its last byte
+pub stripped : (l : List ℕ) (line : Bor (List ℕ)) (r : Option (Bor (List ℕ))) → line.now ≡ l
+    → MatchOption r (pointwise nat_eq (drop (length l - 1) l) (13 ∷ []) ≡ false) (λ x. (pointwise nat_eq (drop (length l - 1) l) (13 ∷ []) ≡ true) × (x.now ≡ take (length l - 1) l) × (length x.now + 1 ≡ length l))
+    → (unwrap_or r line).now ≡ chomped l
+unfolding chomped
+stripped [] line None e h = e
+stripped [] line (Some x) e h = h.1
+stripped (b ∷ bs) line None e h = e ∙ sym (chomped_by (b ∷ bs) false (omega arith) (sym (return_last (b ∷ bs) (omega arith)) ∙ h))
+stripped (b ∷ bs) line (Some x) e h = h.1 ∙ sym (chomped_by (b ∷ bs) true (omega arith) (sym (return_last (b ∷ bs) (omega arith)) ∙ h.0))
 
--- a line that is not kept is not kept when there is more of it
-pub stays_lost : (p : Pending) (l part : List ℕ) → (p.state ≡ state.Whole → ⊥) → Holds p l → Holds p (l ++ part)
-stays_lost p l part n h = stays_so p l part p.state n h
-
--- the part before the first newline is a line, and the whole where there is none
-pub line_before : (part : List ℕ) (n : ℕ) → n ≤ length part → ((k : ℕ) → k < n → get_or part k 0 ≡ 10 → ⊥) → OneLine (take n part)
-line_before part n fits before =
+-- what stands before the first newline is one line
+pub line_before : (part : List ℕ) (n : ℕ) → n < length part → AllWithin (λ x. x ≡ 10 → ⊥) part 0 n → OneLine (take n part)
+line_before part n inside before =
     λ k h e.
     let l = length-take n part in
     let below : k < n = omega arith in
-    before k below (sym (get_or-take n part k 0 below) ∙ e)
+    before k 0 zero-le below (sym (get_or-take n part k 0 below) ∙ e)
 
--- what follows it begins with the newline
-pub newline_first : (xs : List ℕ) → 0 < length xs → get_or xs 0 0 ≡ 10 → xs ≡ 10 ∷ drop 1 xs
-newline_first [] h e = absurd (not-suc-le-zero h)
-newline_first (x ∷ xs) h e = ap (λ (y : ℕ). y ∷ xs) e
+-- the newline and what follows it
+pub at_newline : (part : List ℕ) (n : ℕ) → n < length part → HoldsAt (λ x. x ≡ 10) part n → part ≡ take n part ++ (10 ∷ drop (n + 1) part)
+at_newline part n inside found =
+    let rest : drop n part ≡ get_or part n 0 ∷ drop (n + 1) part =
+    let next : suc n ≡ n + 1 = omega arith in
+    drop-cons part n 0 inside ∙ ap (λ k. get_or part n 0 ∷ drop k part) next in
+    sym (take-append-drop n part) ∙ ap (λ l. take n part ++ l) (rest ∙ ap (λ x. x ∷ drop (n + 1) part) (found 0))

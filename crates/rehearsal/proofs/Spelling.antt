@@ -1,6 +1,6 @@
 -- Faults that one reading passes on to the next.
 -- Assumes nothing.
-use Rattle.std.proofs.Common.{◌≡◌, ℕ, List, length, get_or, IsErrAnd, Ok, Result, sym, ap, ◌∙◌, inl, inr, arith}
+use Rattle.std.proofs.Common.{◌≡◌, ℕ, List, length, get_or, IsErrAnd, Ok, Option, Result, sym, ap, ◌∙◌, inl, inr, arith}
 use Rattle.std.proofs.lemmas.Result.{err_from_is_err_and}
 use Rattle.rehearsal.specs.declared.fault.Fault.{Fault}
 use Rattle.rehearsal.specs.declared.fault.Fault.TheVariants.{TooLong, NoMemory, UnknownStep, DigestForm, NoHexDigit, OddDigits, NoByte, NoCount}
@@ -40,5 +40,5 @@ message_blamed l (NoByte t) n h = (n, h)
 message_blamed l (NoCount t) n h = (n, h)
 
 -- from the message to the step
-pub message_exits : (l : List ℕ) (f : Fault) (r : Result Step Fault) → IsErrAnd r (λ y. y ≡ f) → Named l digest_step → MessageBlamed (rest l) f → StepRead l r
+pub message_exits : (l : List ℕ) (f : Fault) (r : Result (Option Step) Fault) → IsErrAnd r (λ y. y ≡ f) → Named l digest_step → MessageBlamed (rest l) f → StepRead l r
 message_exits l f r passed n h = let p = err_from_is_err_and r passed in rw (p.1, p.2) (message_blamed l f n h)

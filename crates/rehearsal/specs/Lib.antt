@@ -3,6 +3,8 @@ pub mod Lines
 pub mod Listings
 pub mod Messages
 pub mod Numbers
+pub mod Pendings
 pub mod Quotes
 pub mod Readings
 pub mod Texts
+pub mod Unkepts

@@ -1,12 +1,12 @@
 -- Bytes that a script gives, and the steps that it has.
 -- Assumes nothing.
-use Rattle.std.specs.Prelude.{◌≡◌, ℕ, ◌<◌, ◌⊎◌, List, [], length, replicate, Ok, Err, vec_items, string_bytes, codes, Result, slice_index}
+use Rattle.std.specs.Prelude.{◌≡◌, ℕ, ◌<◌, ◌⊎◌, List, [], length, replicate, Some, None, Ok, Err, vec_items, string_bytes, codes, Option, Result, slice_index}
 use Rattle.rehearsal.specs.declared.fault.Fault.{Fault}
 use Rattle.rehearsal.specs.declared.fault.Fault.TheVariants.{TooLong, NoMemory, UnknownStep, DigestForm, NoHexDigit, OddDigits, NoByte, NoCount}
 use Rattle.rehearsal.specs.declared.message.Message.{Message}
 use Rattle.rehearsal.specs.declared.message.Message.TheVariants.{Given, Repeated}
 use Rattle.rehearsal.specs.declared.step.Step.{Step}
-use Rattle.rehearsal.specs.declared.step.Step.TheVariants.{Pass, Digest}
+use Rattle.rehearsal.specs.declared.step.Step.TheVariants.{Digest}
 use Rattle.rehearsal.specs.Lines.{first, rest}
 use Rattle.rehearsal.specs.Quotes.{quotation}
 use Rattle.rehearsal.specs.Readings.{HexRead, HexBlamed, ByteRead, ByteBlamed, CountRead, CountBlamed}
@@ -91,8 +91,8 @@ StepBlamed l (OddDigits n) = Named l digest_step × MessageBlamed (rest l) (OddD
 StepBlamed l (NoByte t) = Named l digest_step × MessageBlamed (rest l) (NoByte t)
 StepBlamed l (NoCount t) = Named l digest_step × MessageBlamed (rest l) (NoCount t)
 
--- the step that a line is
-abbrev pub StepRead : List ℕ → Result Step Fault → Type 0
-StepRead l (Ok Pass) = Passes l
-StepRead l (Ok (Digest m)) = Named l digest_step × MessageRead (rest l) (Ok m)
+-- the step that a line is, if it is one
+abbrev pub StepRead : List ℕ → Result (Option Step) Fault → Type 0
+StepRead l (Ok None) = Passes l
+StepRead l (Ok (Some (Digest m))) = Named l digest_step × MessageRead (rest l) (Ok m)
 StepRead l (Err f) = StepBlamed l f

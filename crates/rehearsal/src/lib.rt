@@ -3,6 +3,7 @@
 
 mod answer;
 mod fault;
+mod line;
 mod listing;
 mod message;
 mod numerals;
@@ -13,11 +14,13 @@ mod step;
 mod stream;
 #[cfg(test)]
 mod tests;
+mod unkept;
 
-pub use answer::{Answer, answer_line};
+pub use answer::Answer;
 pub use fault::Fault;
+pub use line::{LineAnswer, LineFault, answer_line};
 pub use listing::{Listed, list_pieces, write_lines};
 pub use message::Message;
-pub use pending::Pending;
+pub use pending::{Answered, Pending};
 pub use step::Step;
 pub use stream::play;
