@@ -2,6 +2,7 @@
 #![tactic(auto)]
 
 mod fault;
+mod forms;
 mod generator;
 mod message;
 mod numerals;
@@ -11,6 +12,7 @@ mod scan;
 mod tests;
 
 pub use fault::Fault;
+pub use forms::Forms;
 pub use message::Message;
 pub use quote::quoted;
 pub use scan::{is_word, next_word};
