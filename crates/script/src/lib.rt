@@ -8,6 +8,7 @@ mod message;
 mod numerals;
 mod quote;
 mod scan;
+mod source;
 #[cfg(test)]
 mod tests;
 

@@ -1,5 +1,5 @@
 // Bytes that a script gives, in one of the forms that it may write them in.
-ghost use Rattle.std.specs.Prelude.{◌≡◌, ℕ, ◌<◌, List, length, replicate, IfOk, MatchResult};
+ghost use Rattle.std.specs.Prelude.{◌≡◌, ℕ, ◌<◌, List, length, IfOk, MatchResult};
 ghost use Rattle.script.specs.declared.forms.Forms.TheVariants.{Every};
 ghost use Rattle.script.specs.Generators.{generated};
 ghost use Rattle.script.specs.Lines.{first, rest};
@@ -11,6 +11,7 @@ use crate::forms::Forms;
 use crate::generator::Generator;
 use crate::numerals::{read_byte, read_hex, read_number};
 use crate::scan::{is_word, next_word, two_words};
+use crate::source::{Repeated, Source};
 use digest::{Digest, Hasher, sha256};
 use std::alloc::{AllocError, Global};
 
@@ -72,8 +73,8 @@ impl Message {
     {
         match self {
             Message::Given(bytes) => sha256(bytes.as_slice()),
-            Message::Repeated(byte, count) => repeated_digest(*byte, *count),
-            Message::Random(seed, count) => random_digest(*seed, *count),
+            Message::Repeated(byte, count) => digest_of_next(Repeated { byte: *byte }, *count),
+            Message::Random(seed, count) => digest_of_next(Generator::new(*seed), *count),
         }
     }
 
@@ -111,32 +112,21 @@ fn random_bytes(heap: Global, seed: u64, count: u64) -> Result<Vec<u8>, AllocErr
     Ok(bytes)
 }
 
-// How many bytes of a repeated byte, or of the generator, are hashed at a time.
+// How many bytes of a source are hashed at a time.
 const BUFFER: usize = 4096;
 
-fn repeated_digest(byte: u8, count: u64) -> Digest
-    ensures { result ≡ digest_of (replicate count byte) }
+// SHA-256 of a source's next bytes, so many of them.
+fn digest_of_next<S: Source>(mut source: S, count: u64) -> Digest
+    ensures { result ≡ digest_of (S.next_bytes source count) }
 {
-    let buffer = [byte; BUFFER];
-    let mut hasher = Hasher::new();
-    for _turn in 0..count / BUFFER as u64 {
-        hasher.update(&buffer);
-    }
-    hasher.update(&buffer[0..(count % BUFFER as u64) as usize]);
-    hasher.finish()
-}
-
-fn random_digest(seed: u64, count: u64) -> Digest
-    ensures { result ≡ digest_of (generated seed count) }
-{
-    let mut generator = Generator::new(seed);
     let mut buffer = [0; BUFFER];
     let mut hasher = Hasher::new();
-    for _round in 0..count / BUFFER as u64 {
-        generator.fill(&mut buffer);
+    for _turn in 0..count / BUFFER as u64 {
+        source.fill(&mut buffer);
         hasher.update(&buffer);
     }
-    generator.fill(&mut buffer);
-    hasher.update(&buffer[0..(count % BUFFER as u64) as usize]);
+    let last = &mut buffer[0..(count % BUFFER as u64) as usize];
+    source.fill(last);
+    hasher.update(last);
     hasher.finish()
 }
