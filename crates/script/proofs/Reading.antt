@@ -7,7 +7,7 @@ use Rattle.std.proofs.lemmas.List.Sums.{fold_more}
 use Rattle.std.proofs.lemmas.Bool.{cases_lt, and_from, le-leb}
 use Rattle.digest.proofs.Digits.{take_two}
 use Rattle.script.specs.declared.fault.Fault.{Fault}
-use Rattle.script.specs.declared.fault.Fault.TheVariants.{TooLong, NoMemory, UnknownStep, BytesForm, NoHexDigit, OddDigits, NoByte, NoNumber}
+use Rattle.script.specs.declared.fault.Fault.TheVariants.{TooLong, NoMemory, UnknownStep, WrongForm, NoHexDigit, OddDigits, NoByte, NoNumber}
 use Rattle.script.specs.Numbers.{hex_value, HexDigits, paired, DecimalDigits, decimal_value, between}
 use Rattle.script.specs.Readings.{NoDigitAt, HexBlamed, HexRead, ByteRead}
 
@@ -35,7 +35,7 @@ blamed_at : (w : List ℕ) (i : ℕ) (f : Fault) → i < length w → HexDigits 
 blamed_at w i TooLong h k n = n
 blamed_at w i NoMemory h k n = tt
 blamed_at w i (UnknownStep t) h k n = n
-blamed_at w i BytesForm h k n = n
+blamed_at w i (WrongForm forms) h k n = n
 blamed_at w i (NoHexDigit t place) h k n = (i, h, k, n)
 blamed_at w i (OddDigits m) h k n = absurd n
 blamed_at w i (NoByte t) h k n = n

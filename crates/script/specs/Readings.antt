@@ -4,7 +4,7 @@
 use Rattle.std.specs.Prelude.{◌≡◌, ℕ, ◌+◌, ◌%◌, ◌<◌, ◌≤◌, List, [], ◌∷◌, length, Some, None, Ok, Err, vec_items, string_bytes, Option, Result, Vec, slice_index}
 use Rattle.std.specs.declared.alloc.Global.{Global}
 use Rattle.script.specs.declared.fault.Fault.{Fault}
-use Rattle.script.specs.declared.fault.Fault.TheVariants.{TooLong, NoMemory, UnknownStep, BytesForm, NoHexDigit, OddDigits, NoByte, NoNumber}
+use Rattle.script.specs.declared.fault.Fault.TheVariants.{TooLong, NoMemory, UnknownStep, WrongForm, NoHexDigit, OddDigits, NoByte, NoNumber}
 use Rattle.script.specs.Numbers.{hex_value, HexDigits, paired, DecimalDigits, decimal_value, most_number}
 use Rattle.script.specs.Quotes.{quotation}
 
@@ -13,7 +13,7 @@ abbrev pub NoDigitAt : List ℕ → ℕ → Fault → Type 0
 NoDigitAt w i TooLong = ⊥
 NoDigitAt w i NoMemory = hex_value (slice_index w i) ≡ None
 NoDigitAt w i (UnknownStep t) = ⊥
-NoDigitAt w i BytesForm = ⊥
+NoDigitAt w i (WrongForm forms) = ⊥
 NoDigitAt w i (NoHexDigit t place) = (place ≡ i + 1) × (hex_value (slice_index w i) ≡ None) × (string_bytes t ≡ quotation (slice_index w i ∷ []))
 NoDigitAt w i (OddDigits n) = ⊥
 NoDigitAt w i (NoByte t) = ⊥
@@ -29,7 +29,7 @@ abbrev pub HexBlamed : List ℕ → Fault → Type 0
 HexBlamed w TooLong = ⊥
 HexBlamed w NoMemory = Unit {0}
 HexBlamed w (UnknownStep t) = ⊥
-HexBlamed w BytesForm = ⊥
+HexBlamed w (WrongForm forms) = ⊥
 HexBlamed w (NoHexDigit t place) = (i : ℕ) × (i < length w) × HexDigits w i × NoDigitAt w i (NoHexDigit t place)
 HexBlamed w (OddDigits n) = HexDigits w (length w) × (length w % 2 ≡ 1) × (n ≡ length w)
 HexBlamed w (NoByte t) = ⊥
@@ -45,7 +45,7 @@ abbrev pub ByteBlamed : List ℕ → Fault → Type 0
 ByteBlamed w TooLong = ⊥
 ByteBlamed w NoMemory = length w ≡ 2 → HexDigits w 2 → ⊥
 ByteBlamed w (UnknownStep t) = ⊥
-ByteBlamed w BytesForm = ⊥
+ByteBlamed w (WrongForm forms) = ⊥
 ByteBlamed w (NoHexDigit t place) = ⊥
 ByteBlamed w (OddDigits n) = ⊥
 ByteBlamed w (NoByte t) = (length w ≡ 2 → HexDigits w 2 → ⊥) × (string_bytes t ≡ quotation w)
@@ -66,7 +66,7 @@ abbrev pub NumberBlamed : List ℕ → Fault → Type 0
 NumberBlamed w TooLong = ⊥
 NumberBlamed w NoMemory = NumberValue w None
 NumberBlamed w (UnknownStep t) = ⊥
-NumberBlamed w BytesForm = ⊥
+NumberBlamed w (WrongForm forms) = ⊥
 NumberBlamed w (NoHexDigit t place) = ⊥
 NumberBlamed w (OddDigits n) = ⊥
 NumberBlamed w (NoByte t) = ⊥

@@ -10,7 +10,7 @@ returns-in_err-read_number c =
     λ l named after.
     let words = c.in-Some.ensures in
     let f = c.in_err-read_number.field-0.0 in
-    number_exits l c.in-Some.count.now f _ c.from_residual-in_err-read_number.ensures.1 c.in_err-read_number.ensures
+    number_exits c.args.forms l c.in-Some.count.now f _ c.from_residual-in_err-read_number.ensures.1 c.in_err-read_number.ensures
     (λ h.
     inr (inl (
       record { named = named; words = subst TwoWords (sym after) words.0 },
