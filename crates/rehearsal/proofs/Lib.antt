@@ -1,6 +1,3 @@
-mod Blanks
 mod Keeping
 mod Lists
-mod Reading
-mod Shown
 mod Spelling

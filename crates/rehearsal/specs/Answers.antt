@@ -2,12 +2,13 @@
 -- Assumes nothing.
 use Rattle.std.specs.Prelude.{◌≡◌, ℕ, ◌-◌, cond, ◌&&◌, List, length, take, Some, None, Ok, Err, Option, Result, ◌==◌, nat_lt, slice_index}
 use Rattle.digest.specs.Digests.{digest_of}
+use Rattle.script.specs.Messages.{bytes_of}
 use Rattle.rehearsal.specs.declared.answer.Answer.{Answer}
 use Rattle.rehearsal.specs.declared.answer.Answer.TheVariants as answer
 use Rattle.rehearsal.specs.declared.line.LineFault.{LineFault}
 use Rattle.rehearsal.specs.declared.step.Step.{Step}
 use Rattle.rehearsal.specs.declared.step.Step.TheVariants as step
-use Rattle.rehearsal.specs.Messages.{bytes_of, Passes, StepRead}
+use Rattle.rehearsal.specs.Steps.{Passes, StepRead}
 
 -- what a step answers: the digest of the bytes that it stands for
 abbrev pub Plays : Step → Answer → Type 0

@@ -3,7 +3,7 @@
 use Rattle.std.specs.Prelude.{◌≡◌, ℕ, ◌+◌, ◌%◌, ◌^◌, ◌<◌, ◌≤◌, List, [], ◌∷◌, ◌++◌, length, Some, None, Ok, Err, vec_items, Option, Result, Vec, ◌≢◌, slice_index}
 use Rattle.std.specs.declared.alloc.Global.{Global}
 use Rattle.rehearsal.specs.declared.answer.Answer.{Answer}
-use Rattle.rehearsal.specs.declared.fault.Fault.TheVariants as fault
+use Rattle.script.specs.declared.fault.Fault.TheVariants as fault
 use Rattle.rehearsal.specs.declared.line.LineFault.{LineFault}
 use Rattle.rehearsal.specs.declared.pending.Answered.{Answered}
 use Rattle.rehearsal.specs.declared.pending.Pending.{Pending}

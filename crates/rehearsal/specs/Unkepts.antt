@@ -1,8 +1,8 @@
 -- Lines that are not kept.
 -- Assumes nothing.
 use Rattle.std.specs.Prelude.{ℕ, ◌<◌, List, length}
-use Rattle.rehearsal.specs.declared.fault.Fault.{Fault}
-use Rattle.rehearsal.specs.declared.fault.Fault.TheVariants as fault
+use Rattle.script.specs.declared.fault.Fault.{Fault}
+use Rattle.script.specs.declared.fault.Fault.TheVariants as fault
 use Rattle.rehearsal.specs.declared.unkept.Unkept.{Unkept}
 use Rattle.rehearsal.specs.declared.unkept.Unkept.TheVariants.{TooLong, NoMemory}
 use Rattle.rehearsal.specs.Answers.{most}

@@ -4,8 +4,8 @@ ghost use Rattle.rehearsal.specs.Answers.{Answers};
 ghost use Rattle.rehearsal.specs.Texts.{line_fault_text};
 
 use crate::answer::Answer;
-use crate::fault::Fault;
 use crate::step::Step;
+use script::Fault;
 use std::alloc::Global;
 use std::fmt;
 

@@ -4,9 +4,9 @@ ghost use Rattle.std.specs.Result.{ForOk};
 ghost use Rattle.rehearsal.specs.Answers.{chomped, most};
 ghost use Rattle.rehearsal.specs.Unkepts.{Outgrown};
 
-use crate::fault::Fault;
 use crate::line::{LineAnswer, LineFault, answer_line};
 use crate::unkept::Unkept;
+use script::Fault;
 use std::alloc::Global;
 
 // A longer line is not kept.

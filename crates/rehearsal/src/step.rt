@@ -1,12 +1,9 @@
 // A line of the script as a step to play.
-ghost use Rattle.rehearsal.specs.Messages.{StepRead};
+ghost use Rattle.rehearsal.specs.Steps.{StepRead};
 ghost use Rattle.rehearsal.specs.Answers.{Plays};
 
 use crate::answer::Answer;
-use crate::fault::Fault;
-use crate::message::Message;
-use crate::quote::quoted;
-use crate::scan::{is_word, next_word};
+use script::{Fault, Forms, Message, is_word, next_word, quoted};
 use std::alloc::Global;
 
 #[derive(Drop)]
@@ -27,7 +24,7 @@ impl Step {
             return Ok(None);
         }
         if is_word(name, b"digest") {
-            return Ok(Some(Step::Digest(Message::read(heap, others)?)));
+            return Ok(Some(Step::Digest(Message::read(heap, others, Forms::OfDigest)?)));
         }
         Err(Fault::UnknownStep(quoted(heap, name)?))
     }

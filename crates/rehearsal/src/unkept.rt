@@ -3,7 +3,7 @@ ghost use Rattle.std.specs.Prelude.{◌≡◌};
 ghost use Rattle.rehearsal.specs.declared.unkept.Unkept.TheVariants.{NoMemory};
 ghost use Rattle.rehearsal.specs.Unkepts.{fault_of};
 
-use crate::fault::Fault;
+use script::Fault;
 use std::alloc::AllocError;
 
 #[derive(Clone, Copy)]
