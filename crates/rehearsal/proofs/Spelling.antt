@@ -1,24 +1,20 @@
 -- A fault that the reading of a message passes on to the step.
 -- Assumes nothing.
-use Rattle.std.proofs.Common.{◌≡◌, ℕ, List, length, get_or, IsErrAnd, Option, Result, sym, ap, ◌∙◌, inl, inr, arith}
-use Rattle.std.proofs.lemmas.Result.{err_from_is_err_and}
+use Rattle.std.proofs.Common.{◌≡◌, ℕ, List, length, get_or, sym, ap, ◌∙◌, inl, inr, arith}
 use Rattle.script.specs.declared.fault.Fault.{Fault}
 use Rattle.script.specs.declared.fault.Fault.TheVariants.{NoMemory, UnknownStep}
 use Rattle.script.specs.declared.forms.Forms.TheVariants.{OfDigest}
 use Rattle.script.specs.Lines.{rest}
 use Rattle.script.specs.Messages.{MessageBlamed}
-use Rattle.rehearsal.specs.declared.step.Step.{Step}
-use Rattle.rehearsal.specs.Steps.{digest_step, Passes, Named, StepBlamed, StepRead}
+use Rattle.rehearsal.specs.Steps.{digest_step, Passes, Named, StepBlamed}
 
 -- a line with a step's name does not pass
 named_plays : (l : List ℕ) → Named l digest_step → Passes l → ⊥
 named_plays l n (inl e) = let z : ◌≡◌ {A = ℕ} 6 0 = ap length (sym n ∙ e) in omega arith
 named_plays l n (inr h) = let z : ◌≡◌ {A = ℕ} 100 35 = ap (λ (w : List ℕ). get_or w 0 0) (sym n) ∙ h.1 in omega arith
 
-message_blamed : (l : List ℕ) (f : Fault) → Named l digest_step → MessageBlamed OfDigest (rest l) f → StepBlamed l f
+-- from the message to the step
+pub message_blamed : (l : List ℕ) (f : Fault) → Named l digest_step → MessageBlamed OfDigest (rest l) f → StepBlamed l f
 message_blamed l NoMemory n h = (named_plays l n, λ _. h)
 message_blamed l (UnknownStep t) n h = absurd h
 message_blamed l f n h = (n, h)
-
-pub message_exits : (l : List ℕ) (f : Fault) (r : Result (Option Step) Fault) → IsErrAnd r (λ y. y ≡ f) → Named l digest_step → MessageBlamed OfDigest (rest l) f → StepRead l r
-message_exits l f r passed n h = let p = err_from_is_err_and r passed in rw (p.1, p.2) (message_blamed l f n h)

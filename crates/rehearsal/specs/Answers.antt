@@ -1,6 +1,7 @@
 -- What is written for a line.
 -- Assumes nothing.
-use Rattle.std.specs.Prelude.{◌≡◌, ℕ, ◌-◌, cond, ◌&&◌, List, length, take, Some, None, Ok, Err, Option, Result, ◌==◌, nat_lt, slice_index}
+use Rattle.std.specs.Prelude.{◌≡◌, ℕ, ◌-◌, if◌then◌else◌, List, [], ◌∷◌, length, take, nat_eq, Some, None, Ok, Err, Option, Result}
+use Rattle.std.specs.List.{ends_with}
 use Rattle.digest.specs.Digests.{digest_of}
 use Rattle.script.specs.Messages.{bytes_of}
 use Rattle.rehearsal.specs.declared.answer.Answer.{Answer}
@@ -21,8 +22,8 @@ Answers n l (Ok (Some a)) = (s : Step) × StepRead l (Ok (Some s)) × Plays s a
 Answers n l (Err e) = (e.number ≡ n) × StepRead l (Err e.fault)
 
 -- a line without the carriage return that may be its last byte
-unfoldable pub chomped : List ℕ → List ℕ
-chomped l = cond (nat_lt 0 (length l) && slice_index l (length l - 1) == 13) (take (length l - 1) l) l
+abbrev pub chomped : List ℕ → List ℕ
+chomped l = if ends_with nat_eq l (13 ∷ []) then take (length l - 1) l else l
 
 -- the longest line that is looked at
 abbrev pub most : ℕ

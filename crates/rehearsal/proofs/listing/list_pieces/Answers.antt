@@ -1,7 +1,8 @@
 use Rattle.std.proofs.Common.{map, ap, ◌∙◌, take_all}
+use Rattle.std.proofs.lemmas.Result.{err_from_is_err_and}
 use Rattle.cutting.specs.Results.{contents}
 use Rattle.rehearsal.specs.Listings.{listed}
-use Rattle.rehearsal.proofs.Lists.{listed_contents, some_bytes, no_memory}
+use Rattle.rehearsal.proofs.Lists.{listed_contents, some_bytes}
 use Rattle.rehearsal.proofs.listing.list_pieces.Goals as goal
 
 pub returns-in_err-push : goal.returns-in_err-push
@@ -9,7 +10,8 @@ returns-in_err-push c =
     let made = c.in_ok-found.ensures in
     let rule = ap contents c.as_slice-piece-items.ensures.value ∙ made.1.rule in
     let some = some_bytes c.args.file.now c.as_slice-piece-items.result.now c.loop-piece.piece-index c.loop-piece-test.true rule in
-    no_memory c.args.file.now _ some made.0 c.from_residual-in_err-push.ensures.1
+    let passed = err_from_is_err_and c.from_residual-in_err-push.result c.from_residual-in_err-push.ensures.1 in
+    rw (passed.1, passed.2) (some, made.0)
 
 pub returns : goal.returns
 returns c =
