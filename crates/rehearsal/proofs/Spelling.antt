@@ -1,6 +1,7 @@
 -- A fault that the reading of a message passes on to the step.
 -- Assumes nothing.
-use Rattle.std.proofs.Common.{◌≡◌, ℕ, List, length, get_or, sym, ap, ◌∙◌, inl, inr, arith}
+use Rattle.std.proofs.Common.{ℕ, List, arith}
+use Rattle.std.proofs.lemmas.Grind.{common_steps}
 use Rattle.script.specs.declared.fault.Fault.{Fault}
 use Rattle.script.specs.declared.fault.Fault.TheVariants.{NoMemory, UnknownStep}
 use Rattle.script.specs.declared.forms.Forms.TheVariants.{OfDigest}
@@ -10,8 +11,7 @@ use Rattle.rehearsal.specs.Steps.{digest_step, Passes, Named, StepBlamed}
 
 -- a line with a step's name does not pass
 named_plays : (l : List ℕ) → Named l digest_step → Passes l → ⊥
-named_plays l n (inl e) = let z : ◌≡◌ {A = ℕ} 6 0 = ap length (sym n ∙ e) in omega arith
-named_plays l n (inr h) = let z : ◌≡◌ {A = ℕ} 100 35 = ap (λ (w : List ℕ). get_or w 0 0) (sym n) ∙ h.1 in omega arith
+named_plays l n p = grind (arith, common_steps, n, p)
 
 -- from the message to the step
 pub message_blamed : (l : List ℕ) (f : Fault) → Named l digest_step → MessageBlamed OfDigest (rest l) f → StepBlamed l f

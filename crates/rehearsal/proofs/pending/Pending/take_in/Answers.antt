@@ -1,8 +1,8 @@
-use Rattle.std.proofs.Common.{◌≡◌, ◌+◌, ◌%◌, ◌^◌, ◌∷◌, ◌++◌, take, ap, ◌∙◌, sym, zero-le, arith, rules, tests, length-drop}
+use Rattle.std.proofs.Common.{drop-cons, take-append-drop, ◌≡◌, ◌+◌, ◌%◌, ◌^◌, ◌++◌, take, ap, ◌∙◌, zero-le, arith, rules, tests, length-drop}
+use Rattle.std.proofs.lemmas.Grind.{common_steps}
 use Rattle.std.proofs.lemmas.List.{take_rest}
 use Rattle.std.proofs.lemmas.Iterator.{IsFirst-from_position, YieldsList-from_slice}
 use Rattle.std.proofs.option.Match.{if_some, if_none}
-use Rattle.rehearsal.proofs.Keeping.{line_before, at_newline}
 use Rattle.rehearsal.proofs.pending.Pending.take_in.Goals as goal
 
 pub returns-in_default : goal.returns-in_default
@@ -20,8 +20,8 @@ returns c =
       shorter = rw after (omega (arith, length-drop (n + 1) part, first.0));
       taken = λ l h. (
         take n part,
-        line_before part n first.0 first.2,
-        at_newline part n first.0 first.1 ∙ ap (λ xs. take n part ++ (10 ∷ xs)) (sym after),
+        λ k below. grind (arith, common_steps, first.2 k 0),
+        rw after (grind (arith, common_steps, take-append-drop, drop-cons, first.0, first.1 0)),
         c.end.ensures.answer (l ++ take n part) (c.extend-2.ensures.line l h),
         c.end.ensures.line,
         c.end.ensures.ended ∙ ap (λ m. (m + 1) % 2 ^ 64) c.extend-2.ensures.ended,
