@@ -1,11 +1,20 @@
 // Bytes in hexadecimal, and numbers in decimal.
-ghost use Rattle.std.specs.Prelude.{◌≡◌, ◌<◌, length, IfSome};
+ghost use Rattle.std.specs.Prelude.{◌≡◌, ℕ, ◌<◌, List, length, IfSome, Result};
+ghost use Rattle.script.specs.declared.fault.Fault.{Fault};
 ghost use Rattle.script.specs.Numbers.{hex_value};
 ghost use Rattle.script.specs.Readings.{DigitRead, HexRead, ByteValue, ByteRead, NumberValue, NumberRead};
 
 use crate::fault::Fault;
 use crate::quote::quoted;
 use std::alloc::Global;
+
+// What a word may be read as.
+pub trait FromWord: Sized + Drop {
+    ghost Reads: { List ℕ → Result Self Fault → Type 0 };
+
+    fn from_word(heap: Global, word: &[u8]) -> Result<Self, Fault>
+        ensures { Reads word.now result };
+}
 
 // No seed and no count is larger.
 const MOST_NUMBER: u64 = 1_073_741_824;
@@ -24,8 +33,10 @@ fn digit_at(heap: Global, word: &[u8], i: usize) -> Result<u8, Fault>
     requires { i < length word.now }
     ensures { DigitRead word.now i result }
 {
-    digit_value(word[i])
-        .try_ok_or_else(|| Ok(Fault::NoHexDigit(quoted(heap, &word[i..i + 1])?, i + 1)))
+    digit_value(word[i]).try_ok_or_else(|| Ok(Fault::NoHexDigit(
+        quoted(heap, &word[i..i + 1])?,
+        i + 1,
+    )))
 }
 
 // The bytes that a word spells, two digits each.
@@ -55,10 +66,12 @@ fn byte_value(word: &[u8]) -> Option<u8>
     Some(digit_value(*high)? * 16 + digit_value(*low)?)
 }
 
-pub fn read_byte(heap: Global, word: &[u8]) -> Result<u8, Fault>
-    ensures { ByteRead word.now result }
-{
-    byte_value(word).try_ok_or_else(|| Ok(Fault::NoByte(quoted(heap, word)?)))
+impl FromWord for u8 {
+    ghost Reads = { ByteRead };
+
+    fn from_word(heap: Global, word: &[u8]) -> Result<u8, Fault> {
+        byte_value(word).try_ok_or_else(|| Ok(Fault::NoByte(quoted(heap, word)?)))
+    }
 }
 
 // The number that decimal digits spell, where it is one and not too large.
@@ -77,8 +90,10 @@ fn number_value(word: &[u8]) -> Option<u64>
 }
 
 // A seed or a count.
-pub fn read_number(heap: Global, word: &[u8]) -> Result<u64, Fault>
-    ensures { NumberRead word.now result }
-{
-    number_value(word).try_ok_or_else(|| Ok(Fault::NoNumber(quoted(heap, word)?)))
+impl FromWord for u64 {
+    ghost Reads = { NumberRead };
+
+    fn from_word(heap: Global, word: &[u8]) -> Result<u64, Fault> {
+        number_value(word).try_ok_or_else(|| Ok(Fault::NoNumber(quoted(heap, word)?)))
+    }
 }
