@@ -9,7 +9,7 @@ use Rattle.script.specs.declared.message.Message.{Message}
 use Rattle.script.specs.declared.message.Message.TheVariants.{Given, Repeated, Random}
 use Rattle.script.specs.Generators.{generated}
 use Rattle.script.specs.Lines.{first, rest}
-use Rattle.script.specs.Readings.{HexRead, HexBlamed, ByteRead, ByteBlamed, NumberRead, NumberBlamed}
+use Rattle.script.specs.Readings.{HexRead, HexBlamed, ByteRead, NumberRead}
 
 -- the bytes that a message stands for
 abbrev pub bytes_of : Message → List ℕ
@@ -57,18 +57,19 @@ RandomForm forms l = (forms ≡ Every) × Form random l
 abbrev pub NoForm : Forms → List ℕ → Type 0
 NoForm forms l = (0 < length (first l)) × (OneWord forms l → ⊥) × (Form repeat l → ⊥) × (RandomForm forms l → ⊥)
 
--- what is wrong with the byte and the count, the byte first
-abbrev pub RepeatBlamed : List ℕ → Fault → Type 0
-RepeatBlamed l f = ByteBlamed (first l) f ⊎ ((b : ℕ) × ByteRead (first l) (Ok b) × NumberBlamed (second l) f)
+-- what is wrong with two words, the first of them first, where each is read in its way
+abbrev pub TwoBlamed : {A B : Type 0} → (List ℕ → Result A Fault → Type 0) → (List ℕ → Result B Fault → Type 0) → List ℕ → Fault → Type 0
+TwoBlamed {A} One Other l f = One (first l) (Err f) ⊎ ((x : A) × One (first l) (Ok x) × Other (second l) (Err f))
 
--- what is wrong with the seed and the count, the seed first
-abbrev pub RandomBlamed : List ℕ → Fault → Type 0
-RandomBlamed l f = NumberBlamed (first l) f ⊎ ((s : ℕ) × NumberRead (first l) (Ok s) × NumberBlamed (second l) f)
+-- what reading two words may answer: the two values, that there are not two words, or what is wrong with one
+abbrev pub TwoRead : {A B : Type 0} → (List ℕ → Result A Fault → Type 0) → (List ℕ → Result B Fault → Type 0) → Forms → List ℕ → Result (A × B) Fault → Type 0
+TwoRead One Other forms l (Ok p) = TwoWords l × One (first l) (Ok p.0) × Other (second l) (Ok p.1)
+TwoRead One Other forms l (Err f) = ((f ≡ WrongForm forms) × (TwoWords l → ⊥)) ⊎ (TwoWords l × TwoBlamed One Other l f)
 
 -- what is wrong with the words of one of those forms
 abbrev pub WordsBlamed : Forms → List ℕ → Fault → Type 0
 WordsBlamed forms l f =
-    (OneWord forms l × HexBlamed (first l) f) ⊎ ((Form repeat l × RepeatBlamed (rest l) f) ⊎ (RandomForm forms l × RandomBlamed (rest l) f))
+    (OneWord forms l × HexBlamed (first l) f) ⊎ ((Form repeat l × TwoBlamed ByteRead NumberRead (rest l) f) ⊎ (RandomForm forms l × TwoBlamed NumberRead NumberRead (rest l) f))
 
 -- why the words after a step's name stand for no bytes
 abbrev pub MessageBlamed : Forms → List ℕ → Fault → Type 0

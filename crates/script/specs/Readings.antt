@@ -40,20 +40,25 @@ abbrev pub HexRead : List ℕ → Result (Vec ℕ Global) Fault → Type 0
 HexRead w (Ok v) = HexDigits w (length w) × (length w % 2 ≡ 0) × (vec_items v ≡ paired w)
 HexRead w (Err f) = HexBlamed w f
 
+-- the byte that a word is, if it is two hexadecimal digits
+abbrev pub ByteValue : List ℕ → Option ℕ → Type 0
+ByteValue w None = length w ≡ 2 → HexDigits w 2 → ⊥
+ByteValue w (Some b) = (length w ≡ 2) × HexDigits w 2 × (paired w ≡ b ∷ [])
+
 -- a word is not a byte of two hexadecimal digits
 abbrev pub ByteBlamed : List ℕ → Fault → Type 0
 ByteBlamed w TooLong = ⊥
-ByteBlamed w NoMemory = length w ≡ 2 → HexDigits w 2 → ⊥
+ByteBlamed w NoMemory = ByteValue w None
 ByteBlamed w (UnknownStep t) = ⊥
 ByteBlamed w (WrongForm forms) = ⊥
 ByteBlamed w (NoHexDigit t place) = ⊥
 ByteBlamed w (OddDigits n) = ⊥
-ByteBlamed w (NoByte t) = (length w ≡ 2 → HexDigits w 2 → ⊥) × (string_bytes t ≡ quotation w)
+ByteBlamed w (NoByte t) = ByteValue w None × (string_bytes t ≡ quotation w)
 ByteBlamed w (NoNumber t) = ⊥
 
 -- the byte that two hexadecimal digits are
 abbrev pub ByteRead : List ℕ → Result ℕ Fault → Type 0
-ByteRead w (Ok b) = (length w ≡ 2) × HexDigits w 2 × (paired w ≡ b ∷ [])
+ByteRead w (Ok b) = ByteValue w (Some b)
 ByteRead w (Err f) = ByteBlamed w f
 
 -- the number that a word is, if it is one and not too large

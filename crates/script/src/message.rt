@@ -1,15 +1,13 @@
 // Bytes that a script gives, in one of the forms that it may write them in.
-ghost use Rattle.std.specs.Prelude.{◌≡◌, ℕ, ◌<◌, List, length, IfOk, MatchResult};
-ghost use Rattle.script.specs.declared.forms.Forms.TheVariants.{Every};
+ghost use Rattle.std.specs.Prelude.{◌≡◌, ◌<◌, length, IfOk, MatchResult};
 ghost use Rattle.script.specs.Generators.{generated};
-ghost use Rattle.script.specs.Lines.{first, rest};
 ghost use Rattle.digest.specs.Digests.{digest_of};
-ghost use Rattle.script.specs.Messages.{bytes_of, random, repeat, MessageRead};
+ghost use Rattle.script.specs.Messages.{bytes_of, TwoRead, MessageRead};
 
 use crate::fault::Fault;
 use crate::forms::Forms;
 use crate::generator::Generator;
-use crate::numerals::{read_byte, read_hex, read_number};
+use crate::numerals::{FromWord, read_hex};
 use crate::scan::{is_word, next_word, two_words};
 use crate::source::{Repeated, Source};
 use digest::{Digest, Hasher, sha256};
@@ -25,6 +23,18 @@ pub enum Message {
     Random(u64, u64),
 }
 
+// The two words that a form has behind its name.
+fn read_two<A: FromWord, B: FromWord>(
+    heap: Global,
+    words: &[u8],
+    forms: Forms,
+) -> Result<(A, B), Fault>
+    ensures { TwoRead A.Reads B.Reads forms words.now result }
+{
+    let (one, two) = two_words(words).ok_or(Fault::WrongForm(forms))?;
+    Ok((A::from_word(heap, one)?, B::from_word(heap, two)?))
+}
+
 impl Message {
     // What the words after a step's name spell: nothing, HEX, repeat BYTE COUNT, or, where the step takes it, random SEED COUNT.
     pub fn read(heap: Global, words: &[u8], forms: Forms) -> Result<Message, Fault>
@@ -34,37 +44,17 @@ impl Message {
             return Ok(Message::Given(Vec::new(heap)));
         };
         if is_word(word, b"repeat") {
-            return Message::read_repeated(heap, others, forms);
+            let (byte, count) = read_two(heap, others, forms)?;
+            return Ok(Message::Repeated(byte, count));
         }
         if forms == Forms::Every && is_word(word, b"random") {
-            return Message::read_random(heap, others);
+            let (seed, count) = read_two(heap, others, forms)?;
+            return Ok(Message::Random(seed, count));
         }
         if next_word(others).is_some() {
             return Err(Fault::WrongForm(forms));
         }
         Ok(Message::Given(read_hex(heap, word)?))
-    }
-
-    // The words after `repeat`.
-    fn read_repeated(heap: Global, words: &[u8], forms: Forms) -> Result<Message, Fault>
-        ensures { (l : List ℕ) → first l ≡ repeat → rest l ≡ words.now → MessageRead forms l result }
-    {
-        let Some((byte, count)) = two_words(words) else {
-            return Err(Fault::WrongForm(forms));
-        };
-        let byte = read_byte(heap, byte)?;
-        Ok(Message::Repeated(byte, read_number(heap, count)?))
-    }
-
-    // The words after `random`.
-    fn read_random(heap: Global, words: &[u8]) -> Result<Message, Fault>
-        ensures { (l : List ℕ) → first l ≡ random → rest l ≡ words.now → MessageRead Every l result }
-    {
-        let Some((seed, count)) = two_words(words) else {
-            return Err(Fault::WrongForm(Forms::Every));
-        };
-        let seed = read_number(heap, seed)?;
-        Ok(Message::Random(seed, read_number(heap, count)?))
     }
 
     // SHA-256 of the bytes. Those that are not given one by one are hashed from a small buffer, however many they are.
