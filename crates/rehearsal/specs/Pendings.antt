@@ -9,7 +9,7 @@ use Rattle.rehearsal.specs.declared.pending.Answered.{Answered}
 use Rattle.rehearsal.specs.declared.pending.Pending.{Pending}
 use Rattle.rehearsal.specs.declared.unkept.Unkept.{Unkept}
 use Rattle.rehearsal.specs.Answers.{Answers, chomped, most}
-use Rattle.rehearsal.specs.Unkepts.{Outgrown}
+use Rattle.rehearsal.specs.Unkepts.{IsUnkept}
 
 -- the answer to line number n as it stands in the script, however long it is
 pub data LineAnswers (n : ℕ) (l : List ℕ) (r : Result (Option Answer) LineFault) : Type 0 where
@@ -23,7 +23,7 @@ pub data LineAnswers (n : ℕ) (l : List ℕ) (r : Result (Option Answer) LineFa
 -- what is kept of the line l that is being read
 abbrev pub Kept : List ℕ → Result (Vec ℕ Global) Unkept → Type 0
 Kept l (Ok v) = (vec_items v ≡ l) × (length l ≤ most)
-Kept l (Err e) = Outgrown e l
+Kept l (Err e) = IsUnkept e l
 
 -- the line that is being read, since the last one ended, is l so far
 abbrev pub Holds : Pending → List ℕ → Type 0

@@ -7,10 +7,10 @@ use Rattle.rehearsal.specs.declared.unkept.Unkept.{Unkept}
 use Rattle.rehearsal.specs.declared.unkept.Unkept.TheVariants.{TooLong, NoMemory}
 use Rattle.rehearsal.specs.Answers.{most}
 
--- a line is not kept because it is too long, or because there was no memory for its bytes
-abbrev pub Outgrown : Unkept → List ℕ → Type 0
-Outgrown TooLong l = most < length l
-Outgrown NoMemory l = 0 < length l
+-- a line that is not kept is too long, or has bytes, for which there was no memory
+abbrev pub IsUnkept : Unkept → List ℕ → Type 0
+IsUnkept TooLong l = most < length l
+IsUnkept NoMemory l = 0 < length l
 
 -- the fault that its answer names
 abbrev pub fault_of : Unkept → Fault

@@ -5,7 +5,7 @@ ghost use Rattle.rehearsal.specs.Texts.{answer_text};
 use digest::Digest;
 use std::fmt;
 
-#[derive(Clone, Copy)]
+#[derive(Drop)]
 pub enum Answer {
     Digest(Digest),
 }

@@ -30,7 +30,7 @@ pub fn list_pieces(heap: Global, file: &[u8]) -> Result<Vec<Listed>, Refusal>
     let found = cut(heap, file)?;
     let mut list = Vec::new(heap);
     // No `collect`, which does not promise that a list of no pieces needs no memory.
-    for piece in found.as_slice() {
+    for piece in &found {
         list.push(Listed {
             length: piece.len(),
             name: sha256(*piece),

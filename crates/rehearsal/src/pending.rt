@@ -2,7 +2,7 @@
 ghost use Rattle.std.specs.Prelude.{◌≡◌, ℕ, ◌+◌, ◌%◌, ◌^◌, ◌<◌, ◌≤◌, List, [], ◌++◌, length, Decides, IfOk, IfErr, IfSome};
 ghost use Rattle.std.specs.Result.{ForOk};
 ghost use Rattle.rehearsal.specs.Answers.{chomped, most};
-ghost use Rattle.rehearsal.specs.Unkepts.{Outgrown};
+ghost use Rattle.rehearsal.specs.Unkepts.{IsUnkept};
 
 use crate::line::{LineAnswer, LineFault, answer_line};
 use crate::unkept::Unkept;
@@ -40,7 +40,7 @@ fn without_return(line: &[u8]) -> &[u8]
 fn add(line: &mut Vec<u8>, part: &[u8]) -> Result<(), Unkept>
     requires { length line.old.items ≤ most }
     ensures kept { IfOk result (λ _. (line.new.items ≡ line.old.items ++ part.now) × (length line.new.items ≤ most)) }
-    ensures unkept { IfErr result (λ e. Outgrown e (line.old.items ++ part.now)) }
+    ensures unkept { IfErr result (λ e. IsUnkept e (line.old.items ++ part.now)) }
 {
     if part.len() > MOST_IN_LINE.saturating_sub(line.len()) {
         return Err(Unkept::TooLong);
