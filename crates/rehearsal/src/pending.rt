@@ -85,7 +85,7 @@ impl Pending {
         let number = self.ended.wrapping_add(1);
         let answer = match &mut self.line {
             Ok(line) => {
-                let answer = answer_line(self.heap, number, without_return(line.as_slice()));
+                let answer = answer_line(self.heap, number, without_return(line));
                 line.clear();
                 answer
             }

@@ -33,11 +33,11 @@ pub fn play(rt: &HostRuntime) -> io::Result<()> {
     let mut pending = Pending::new(heap);
     // Nothing says that an input ends, and every loop has to.
     for _ in 0..u64::MAX {
-        let n = input.read(buffer.as_mut_slice())?;
+        let n = input.read(&mut buffer)?;
         if n == 0 {
             break;
         }
-        play_part(rt, &mut pending, &buffer.as_slice()[0..n])?;
+        play_part(rt, &mut pending, &buffer[..n])?;
     }
     if pending.is_begun() {
         write_answer(rt, pending.end())?;
