@@ -8,21 +8,21 @@ use Rattle.script.specs.declared.fault.Fault.TheVariants.{TooLong, NoMemory, Unk
 use Rattle.script.specs.Numbers.{hex_value, HexDigits, paired, DecimalDigits, decimal_value, most_number}
 use Rattle.script.specs.Quotes.{quotation}
 
--- the byte i of a word is not a hexadecimal digit; places are counted from 1
-abbrev pub NoDigitAt : List ℕ → ℕ → Fault → Type 0
-NoDigitAt w i TooLong = ⊥
-NoDigitAt w i NoMemory = hex_value (slice_index w i) ≡ None
-NoDigitAt w i (UnknownStep t) = ⊥
-NoDigitAt w i (WrongForm forms) = ⊥
-NoDigitAt w i (NoHexDigit t place) = (place ≡ i + 1) × (hex_value (slice_index w i) ≡ None) × (string_bytes t ≡ quotation (slice_index w i ∷ []))
-NoDigitAt w i (OddDigits n) = ⊥
-NoDigitAt w i (NoByte t) = ⊥
-NoDigitAt w i (NoNumber t) = ⊥
+-- c, at this place of a word, is not a hexadecimal digit; places are counted from 1
+abbrev pub NoDigit : ℕ → ℕ → Fault → Type 0
+NoDigit c place TooLong = ⊥
+NoDigit c place NoMemory = hex_value c ≡ None
+NoDigit c place (UnknownStep t) = ⊥
+NoDigit c place (WrongForm forms) = ⊥
+NoDigit c place (NoHexDigit t at) = (at ≡ place) × (hex_value c ≡ None) × (string_bytes t ≡ quotation (c ∷ []))
+NoDigit c place (OddDigits n) = ⊥
+NoDigit c place (NoByte t) = ⊥
+NoDigit c place (NoNumber t) = ⊥
 
--- the digit that the byte i of a word is
-abbrev pub DigitRead : List ℕ → ℕ → Result ℕ Fault → Type 0
-DigitRead w i (Ok d) = (d < 16) × (hex_value (slice_index w i) ≡ Some d)
-DigitRead w i (Err f) = NoDigitAt w i f
+-- the number that c, at this place, stands for as a digit
+abbrev pub DigitRead : ℕ → ℕ → Result ℕ Fault → Type 0
+DigitRead c place (Ok d) = (d < 16) × (hex_value c ≡ Some d)
+DigitRead c place (Err f) = NoDigit c place f
 
 -- a word is not the hexadecimal form of bytes: its first byte that is no digit, or else the odd number of its digits
 abbrev pub HexBlamed : List ℕ → Fault → Type 0
@@ -30,7 +30,7 @@ HexBlamed w TooLong = ⊥
 HexBlamed w NoMemory = Unit {0}
 HexBlamed w (UnknownStep t) = ⊥
 HexBlamed w (WrongForm forms) = ⊥
-HexBlamed w (NoHexDigit t place) = (i : ℕ) × (i < length w) × HexDigits w i × NoDigitAt w i (NoHexDigit t place)
+HexBlamed w (NoHexDigit t place) = (i : ℕ) × (i < length w) × HexDigits w i × NoDigit (slice_index w i) (i + 1) (NoHexDigit t place)
 HexBlamed w (OddDigits n) = HexDigits w (length w) × (length w % 2 ≡ 1) × (n ≡ length w)
 HexBlamed w (NoByte t) = ⊥
 HexBlamed w (NoNumber t) = ⊥

@@ -28,29 +28,26 @@ fn digit_value(c: u8) -> Option<u8>
     Some(digit as u8)
 }
 
-// The digit at index i of a word.
-fn digit_at(heap: Global, word: &[u8], i: usize) -> Result<u8, Fault>
-    requires { i < length word.now }
-    ensures { DigitRead word.now i result }
+// The number that a digit at this place of a word stands for; places are counted from 1.
+fn read_digit(heap: Global, digit: u8, place: usize) -> Result<u8, Fault>
+    ensures { DigitRead digit place result }
 {
-    digit_value(word[i]).try_ok_or_else(|| Ok(Fault::NoHexDigit(
-        quoted(heap, &word[i..i + 1])?,
-        i + 1,
-    )))
+    digit_value(digit).try_ok_or_else(|| Ok(Fault::NoHexDigit(quoted(heap, &[digit])?, place)))
 }
 
 // The bytes that a word spells, two digits each.
 pub fn read_hex(heap: Global, word: &[u8]) -> Result<Vec<u8>, Fault>
     ensures { HexRead word.now result }
 {
-    let mut bytes = Vec::with_capacity(heap, word.len() / 2)?;
-    for i in 0..word.len() / 2 {
-        let high = digit_at(heap, word, 2 * i)?;
-        let low = digit_at(heap, word, 2 * i + 1)?;
+    let (pairs, last) = word.as_chunks::<2>();
+    let mut bytes = Vec::with_capacity(heap, pairs.len())?;
+    for (i, [high, low]) in pairs.iter().enumerate() {
+        let high = read_digit(heap, *high, 2 * i + 1)?;
+        let low = read_digit(heap, *low, 2 * i + 2)?;
         bytes.push(high * 16 + low)?;
     }
-    if word.len() % 2 == 1 {
-        digit_at(heap, word, word.len() - 1)?;
+    if let Some(digit) = last.first() {
+        read_digit(heap, *digit, word.len())?;
         return Err(Fault::OddDigits(word.len()));
     }
     Ok(bytes)
