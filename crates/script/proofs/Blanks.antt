@@ -1,20 +1,16 @@
 -- Where the first word of a line begins, and where it ends.
 -- Assumes nothing.
-use Rattle.std.proofs.Common.{◌≡◌, ℕ, ◌-◌, ◌<◌, ◌≤◌, Bool, true, false, cond, not, ltb, List, [], ◌∷◌, length, get_or, take, drop, Some, None, unwrap_or, sym, refl, ap, ◌∙◌, ⊎_elim, not-suc-le-zero, one-add, arith, length-take, length-drop, take_all}
+use Rattle.std.proofs.Common.{◌≡◌, ℕ, ◌+◌, ◌-◌, ◌<◌, ◌≤◌, Bool, true, false, cond, not, ltb, List, [], ◌∷◌, length, get_or, take, drop, Some, None, unwrap_or, sym, refl, ap, ◌∙◌, not-suc-le-zero, arith, length-take, length-drop, take_all}
 use Rattle.std.specs.List.{prefix_len, position, position_or_len}
-use Rattle.std.proofs.lemmas.List.{nil_from_length}
-use Rattle.std.proofs.lemmas.Bool.{cases_Bool}
+use Rattle.std.proofs.lemmas.List.{nil_from_length, get_or-drop}
 use Rattle.std.proofs.lemmas.Bool.Decides.{nat_tests}
-use Rattle.std.proofs.lemmas.List.Sums.{prefix_len-le-length}
+use Rattle.std.proofs.lemmas.List.Sums.{prefix_len-le-length, position_or_len_is}
+use Rattle.std.proofs.lemmas.List.Quantifiers.{position-Some}
 use Rattle.script.specs.Lines.{blank, trimmed, first}
 
 not-not : (b : Bool) → not (not b) ≡ b
 not-not true = refl
 not-not false = refl
-
-at_some : (b : Bool) (n i : ℕ) → cond b (Some n) None ≡ Some i → (b ≡ true) × (n ≡ i)
-at_some true n i e = (refl, cc)
-at_some false n i e = absurd cc
 
 at_none : (b : Bool) (n : ℕ) → cond b (Some n) None ≡ None → b ≡ false
 at_none true n e = absurd cc
@@ -23,15 +19,6 @@ at_none false n e = refl
 or_end : (b : Bool) (n most : ℕ) → n ≤ most → ltb n most ≡ b → unwrap_or (cond b (Some n) None) most ≡ n
 or_end true n most h e = refl
 or_end false n most h e = grind (arith, nat_tests)
-
--- after a run of bytes that pass comes one that does not
-stops : (p : ℕ → Bool) (xs : List ℕ) → 0 < length (drop (prefix_len p xs) xs) → p (get_or (drop (prefix_len p xs) xs) 0 0) ≡ false
-stops p [] h = absurd (not-suc-le-zero h)
-stops p (x ∷ xs) h =
-    ⊎_elim
-    (λ (e : p x ≡ true). rw (e, one-add) (stops p xs (rw (e, one-add) at h)))
-    (λ (e : p x ≡ false). rw e e)
-    (cases_Bool (p x))
 
 leads : (p : ℕ → Bool) (xs : List ℕ) → 0 < length xs → p (get_or xs 0 0) ≡ true → 0 < prefix_len p xs
 leads p [] h e = absurd (not-suc-le-zero h)
@@ -44,17 +31,20 @@ behind l = λ i. prefix_len (λ (c : ℕ). not-not (blank c) i) l
 -- there is a word, and it begins here
 pub begins : (l : List ℕ) (start : ℕ) → position (λ c. not (blank c)) l ≡ Some start → drop start l ≡ trimmed l
 unfolding trimmed
-begins l start e = ap (λ (n : ℕ). drop n l) (sym (at_some _ _ _ e).1 ∙ behind l)
+begins l start e =
+    let at = position-Some (λ c. not (blank c)) l start 0 e in
+    ap (λ (n : ℕ). drop n l) (sym (position_or_len_is (λ c. not (blank c)) l start 0 (omega arith) at.2 (λ _. at.1)) ∙ behind l)
 
 -- and is not empty
 pub first_some : (l : List ℕ) (start : ℕ) → position (λ c. not (blank c)) l ≡ Some start → 0 < length (first l)
-unfolding first trimmed
+unfolding first
 first_some l start e =
-    let first_at = behind l in
-    let inside : prefix_len blank l < length l = let t = (at_some _ _ _ e).0 in grind (arith, nat_tests) in
-    let some : 0 < length (trimmed l) = rw length-drop (omega arith) in
-    let plain : not (blank (get_or (trimmed l) 0 0)) ≡ true = ap not (stops blank l some) in
-    let more = leads (λ c. not (blank c)) (trimmed l) some plain in
+    let at = position-Some (λ c. not (blank c)) l start 0 e in
+    let here = begins l start e in
+    let some : 0 < length (trimmed l) = omega (arith, ap length here, length-drop start l) in
+    let from : start + 0 ≡ start = omega arith in
+    let same : get_or (trimmed l) 0 0 ≡ get_or l start 0 = ap (λ (t : List ℕ). get_or t 0 0) (sym here) ∙ get_or-drop start l 0 0 ∙ ap (λ (k : ℕ). get_or l k 0) from in
+    let more = leads (λ c. not (blank c)) (trimmed l) some (ap (λ (c : ℕ). not (blank c)) same ∙ at.1) in
     let most = prefix_len-le-length (λ c. not (blank c)) (trimmed l) in
     rw length-take (omega arith)
 

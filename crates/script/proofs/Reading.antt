@@ -1,16 +1,16 @@
 -- Numbers that are read digit by digit.
 -- Assumes nothing.
-use Rattle.std.proofs.Common.{◌≡◌, ℕ, zero, suc, ◌+◌, ◌-◌, ◌*◌, ◌/◌, ◌%◌, ◌<◌, ◌≤◌, leb, List, [], ◌∷◌, ◌++◌, length, get_or, take, drop, is_some, IsErrAnd, Some, Ok, fold, Option, Result, Vec, unwrap_or, sym, refl, ap, ◌∙◌, subst, ⊎_elim, not-suc-le-zero, arith, take-append-drop, length-take-le, take_all}
+use Rattle.std.proofs.Common.{◌≡◌, ℕ, zero, suc, ◌+◌, ◌-◌, ◌*◌, ◌/◌, ◌%◌, ◌<◌, ◌≤◌, List, [], ◌∷◌, ◌++◌, length, get_or, take, drop, is_some, IsErrAnd, Some, Ok, fold, Option, Result, Vec, unwrap_or, sym, refl, ap, ◌∙◌, subst, ⊎_elim, not-suc-le-zero, arith, take-append-drop, length-take-le, take_all}
 use Rattle.std.specs.declared.alloc.Global.{Global}
 use Rattle.std.proofs.lemmas.List.{get_or-drop}
 use Rattle.std.proofs.lemmas.Result.{err_from_is_err_and}
-use Rattle.std.proofs.lemmas.List.Sums.{fold_more}
-use Rattle.std.proofs.lemmas.Bool.{cases_lt, and_from, le-leb}
+use Rattle.std.proofs.lemmas.List.Sums.{fold-append, fold_more}
+use Rattle.std.proofs.lemmas.Bool.{cases_lt}
 use Rattle.digest.proofs.Digits.{take_two}
 use Rattle.std.specs.Simd.{first_chunks}
 use Rattle.script.specs.declared.fault.Fault.{Fault}
 use Rattle.script.specs.declared.fault.Fault.TheVariants.{TooLong, NoMemory, UnknownStep, WrongForm, NoHexDigit, OddDigits, NoByte, NoNumber}
-use Rattle.script.specs.Numbers.{hex_value, HexDigits, paired, DecimalDigits, decimal_value, between}
+use Rattle.script.specs.Numbers.{hex_value, HexDigits, paired, decimal_value}
 use Rattle.script.specs.Readings.{NoDigit, HexBlamed, HexRead, ByteRead}
 
 chunk_at : (w : List ℕ) (k i : ℕ) → i < k → 2 * k ≤ length w → get_or (first_chunks 2 k w) i [] ≡ get_or w (2 * i) 0 ∷ (get_or w (2 * i + 1) 0 ∷ [])
@@ -89,17 +89,6 @@ two_digits w m n l p q =
     let all = ap paired (sym (take_all 2 w (omega arith))) ∙ paired_more w 0 m n (omega arith) p q in
     (l, both, all)
 
--- decimal digits
-pub decimals_more : (w : List ℕ) (i : ℕ) → DecimalDigits w i → 48 ≤ get_or w i 0 → get_or w i 0 ≤ 57 → DecimalDigits w (i + 1)
-decimals_more w i so_far low high =
-    let e = and_from (leb 48 (get_or w i 0)) (leb (get_or w i 0) 57) (le-leb 48 (get_or w i 0) low) (le-leb (get_or w i 0) 57 high) in
-    λ k h.
-    ⊎_elim (λ (below : k < i). so_far k below)
-    (λ (last : i ≤ k).
-    let same : k ≡ i = omega arith in
-    ap (λ (j : ℕ). between 48 57 (get_or w j 0)) same ∙ e)
-    (cases_lt k i)
-
 abbrev step : ℕ → ℕ → ℕ
 step n c = n * 10 + (c - 48)
 
@@ -107,14 +96,10 @@ grows : (n : ℕ) (w : List ℕ) → n ≤ fold step n w
 grows n [] = omega arith
 grows n (c ∷ w) = let ih = grows (n * 10 + (c - 48)) w in omega arith
 
-folded-append : (n : ℕ) (xs ys : List ℕ) → fold step n (xs ++ ys) ≡ fold step (fold step n xs) ys
-folded-append n [] ys = refl
-folded-append n (x ∷ xs) ys = folded-append (n * 10 + (x - 48)) xs ys
-
 -- digits that follow do not make a number smaller
 pub decimal_front : (w : List ℕ) (i : ℕ) → decimal_value (take i w) ≤ decimal_value w
 decimal_front w i =
-    let whole : decimal_value w ≡ fold step (decimal_value (take i w)) (drop i w) = ap (fold step 0) (sym (take-append-drop i w)) ∙ folded-append 0 (take i w) (drop i w) in
+    let whole : decimal_value w ≡ fold step (decimal_value (take i w)) (drop i w) = ap (fold step 0) (sym (take-append-drop i w)) ∙ fold-append step 0 (take i w) (drop i w) in
     let more = grows (decimal_value (take i w)) (drop i w) in
     omega arith
 

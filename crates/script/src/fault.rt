@@ -7,7 +7,7 @@ use crate::forms::Forms;
 use std::alloc::{AllocError, AllocFailed};
 use std::fmt;
 
-#[derive(Drop)]
+#[derive(Debug, PartialEq, Eq, Drop)]
 pub enum Fault {
     // the line is longer than a line may be
     TooLong,

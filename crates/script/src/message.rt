@@ -13,7 +13,7 @@ use crate::source::{Repeated, Source};
 use digest::{Digest, Hasher, sha256};
 use std::alloc::{AllocError, Global};
 
-#[derive(Drop)]
+#[derive(Debug, PartialEq, Eq, Drop)]
 pub enum Message {
     // these bytes
     Given(Vec<u8>),

@@ -6,7 +6,7 @@ ghost use Rattle.script.specs.Messages.{second, TwoWords};
 fn is_blank(c: u8) -> bool
     ensures { result ≡ blank c }
 {
-    c == b' ' || c == b'\t'
+    matches!(c, b' ' | b'\t')
 }
 
 // The first word and what follows it, or None where there is no word.

@@ -1,4 +1,4 @@
-use Rattle.std.proofs.Common.{ℕ, ◌+◌, ◌-◌, ◌*◌, List, get_or, length, sym, refl, ap, ◌∙◌, not-suc-le-zero, arith, take_all}
+use Rattle.std.proofs.Common.{ℕ, ◌+◌, ◌-◌, ◌*◌, List, get_or, length, sym, refl, ap, ◌∙◌, not-suc-le-zero, arith}
 use Rattle.std.proofs.lemmas.Slice.{pushed}
 use Rattle.script.specs.Numbers.{hex_value, paired}
 use Rattle.script.proofs.Reading.{digits_more, digits_at, pair_at, last_at, hex_exit, paired_more}
@@ -53,12 +53,3 @@ returns-in-Some c =
     let all = digits_at w (2 * c.loop-i.i) (length w - 1) (omega (arith, some)) c.loop-i.invariant.0 in
     let digit = sym (ap hex_value (there.1 0 ∙ last_at w _ c.as_chunks.ensures.back (omega (arith, some)))) ∙ c.in_ok-read_digit.ensures.1 in
     (digits_at w (length w - 1 + 1) (length w) (omega (arith, some)) (digits_more w (length w - 1) _ all digit), omega (arith, some), refl)
-
-pub returns : goal.returns
-returns c =
-    let w = c.args.word.now in
-    let none = c.in_default.ensures.item.3 in (
-      digits_at w (2 * c.loop-i.i) (length w) (omega (arith, none)) c.loop-i.invariant.0,
-      omega (arith, none),
-      c.loop-i.invariant.1 ∙ ap paired (take_all (2 * c.loop-i.i) w (omega (arith, none))),
-    )
