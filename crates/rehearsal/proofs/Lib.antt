@@ -1,6 +1,2 @@
-mod Blanks
-mod Keeping
 mod Lists
-mod Reading
-mod Shown
 mod Spelling

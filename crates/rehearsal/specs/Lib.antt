@@ -1,8 +1,6 @@
 pub mod Answers
-pub mod Lines
 pub mod Listings
-pub mod Messages
-pub mod Numbers
-pub mod Quotes
-pub mod Readings
+pub mod Pendings
+pub mod Steps
 pub mod Texts
+pub mod Unkepts

@@ -19,9 +19,7 @@ impl fmt::Display for Listed {
     ghost output = { λ p. Some (listed_text p) };
 
     fn fmt<W: fmt::Write>(&self, f: &mut fmt::Formatter<W>) -> fmt::Result {
-        let length = self.length;
-        let name = self.name;
-        write!(f, "{length} {name}")
+        write!(f, "{} {}", self.length, self.name)
     }
 }
 
@@ -31,7 +29,8 @@ pub fn list_pieces(heap: Global, file: &[u8]) -> Result<Vec<Listed>, Refusal>
 {
     let found = cut(heap, file)?;
     let mut list = Vec::new(heap);
-    for piece in found.as_slice() {
+    // No `collect`, which does not promise that a list of no pieces needs no memory.
+    for piece in &found {
         list.push(Listed {
             length: piece.len(),
             name: sha256(*piece),

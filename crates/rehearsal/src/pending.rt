@@ -1,9 +1,12 @@
 // A script that comes in parts: the line that is being read, and the answer to each that ends.
-ghost use Rattle.std.specs.Prelude.{◌≡◌, ℕ, ◌+◌, ◌%◌, ◌^◌, ◌<◌, ◌≤◌, List, [], ◌++◌, length, Decides, ◌≢◌, slice_index};
-ghost use Rattle.rehearsal.specs.Answers.{chomped, LineAnswers, Holds, TakesIn};
+ghost use Rattle.std.specs.Prelude.{◌≡◌, ℕ, ◌+◌, ◌%◌, ◌^◌, ◌<◌, ◌≤◌, List, [], ◌++◌, length, Decides, IfOk, IfErr, IfSome};
+ghost use Rattle.std.specs.Result.{ForOk};
+ghost use Rattle.rehearsal.specs.Answers.{chomped, most};
+ghost use Rattle.rehearsal.specs.Unkepts.{IsUnkept};
 
-use crate::answer::{Answer, answer_line};
-use crate::fault::Fault;
+use crate::line::{LineAnswer, LineFault, answer_line};
+use crate::unkept::Unkept;
+use script::Fault;
 use std::alloc::Global;
 
 // A longer line is not kept.
@@ -11,54 +14,53 @@ const MOST_IN_LINE: usize = 67_108_864;
 
 #[derive(Drop)]
 pub struct Pending {
+    heap: Global,
     // how many lines were ended before this one
     ended: u64,
     // the line so far, where it is kept
-    line: Vec<u8>,
-    state: State,
+    line: Result<Vec<u8>, Unkept>,
+    ghost fits: { ForOk line (λ v. length v.items ≤ most) },
 }
 
-#[derive(Clone, Copy)]
-pub enum State {
-    Whole,
-    TooLong,
-    NoMemory,
+// The answer to a line that ended in a part of the script, and what follows the line there.
+#[derive(Drop)]
+pub struct Answered<'a> {
+    pub answer: LineAnswer,
+    pub after: &'a [u8],
 }
 
 // A line without the carriage return that may be its last byte.
 fn without_return(line: &[u8]) -> &[u8]
     ensures { result.now ≡ chomped line.now }
 {
-    let n = line.len();
-    if n > 0 && line[n - 1] == b'\r' {
-        return &line[0..n - 1];
-    }
-    line
+    line.strip_suffix(b"\r").unwrap_or(line)
 }
 
-// Where the first newline is, or how many bytes there are.
-fn line_end(bytes: &[u8]) -> usize
-    ensures within { result ≤ length bytes.now }
-    ensures before { (k : ℕ) → k < result → slice_index bytes.now k ≢ 10 }
-    ensures found { result < length bytes.now → slice_index bytes.now result ≡ 10 }
+// Adds bytes to a line that is kept.
+fn add(line: &mut Vec<u8>, part: &[u8]) -> Result<(), Unkept>
+    requires { length line.old.items ≤ most }
+    ensures kept { IfOk result (λ _. (line.new.items ≡ line.old.items ++ part.now) × (length line.new.items ≤ most)) }
+    ensures unkept { IfErr result (λ e. IsUnkept e (line.old.items ++ part.now)) }
 {
-    for i in 0..bytes.len() {
-        if bytes[i] == b'\n' {
-            return i;
-        }
+    if part.len() > MOST_IN_LINE.saturating_sub(line.len()) {
+        return Err(Unkept::TooLong);
     }
-    bytes.len()
+    line.extend_from_slice(part)?;
+    Ok(())
 }
 
 impl Pending {
+    // Which line is being read is said in each contract, since a line that is not kept does not stand in the fields.
+    ghost use Rattle.rehearsal.specs.Pendings.{LineAnswers, Holds, TakesIn};
+
     pub fn new(heap: Global) -> Pending
         ensures ended { result.ended ≡ 0 }
         ensures line { Holds result [] }
     {
         Pending {
+            heap,
             ended: 0,
-            line: Vec::new(heap),
-            state: State::Whole,
+            line: Ok(Vec::new(heap)),
         }
     }
 
@@ -67,53 +69,59 @@ impl Pending {
         ensures ended { self.new.ended ≡ self.old.ended }
         ensures line { (l : List ℕ) → Holds self.old l → Holds self.new (l ++ part.now) }
     {
-        if let State::Whole = self.state {
-            if part.len() > MOST_IN_LINE.saturating_sub(self.line.len()) {
-                self.state = State::TooLong;
-            } else if self.line.extend_from_slice(part).is_err() {
-                self.state = State::NoMemory;
-            }
+        if let Ok(line) = &mut self.line
+            && let Err(unkept) = add(line, part)
+        {
+            self.line = Err(unkept);
         }
     }
 
-    // Ends the line, answers it, and begins the next one.
-    pub fn end(&mut self, heap: Global) -> Answer
+    // Ends the line, answers it, and begins the next one, in the same memory where this one was kept.
+    pub fn end(&mut self) -> LineAnswer
         ensures ended { self.new.ended ≡ (self.old.ended + 1) % 2 ^ 64 }
         ensures answer { (l : List ℕ) → Holds self.old l → LineAnswers self.new.ended l result }
         ensures line { Holds self.new [] }
     {
         let number = self.ended.wrapping_add(1);
-        let answer = match self.state {
-            State::Whole => answer_line(heap, number, without_return(self.line.as_slice())),
-            State::TooLong => Answer::Fault(number, Fault::TooLong),
-            State::NoMemory => Answer::Fault(number, Fault::NoMemory),
+        let answer = match &mut self.line {
+            Ok(line) => {
+                let answer = answer_line(self.heap, number, without_return(line));
+                line.clear();
+                answer
+            }
+            Err(unkept) => {
+                let fault = Fault::from(*unkept);
+                self.line = Ok(Vec::new(self.heap));
+                Err(LineFault { number, fault })
+            }
         };
         self.ended = number;
-        self.line.clear();
-        self.state = State::Whole;
         answer
     }
 
-    // Takes in a part of the script up to its first newline, and with it. Gives the answer to the line that ends there, if one does, and what follows.
-    pub fn take_in<'a>(&mut self, heap: Global, part: &'a [u8]) -> (Option<Answer>, &'a [u8])
-        ensures { (l : List ℕ) → Holds self.old l → TakesIn l self.old.ended part.now result.0 result.1.now self.new }
+    // Takes in a part of the script up to its first newline, and with it. None where no line ends in the part, which is taken in whole then.
+    pub fn take_in<'a>(&mut self, part: &'a [u8]) -> Option<Answered<'a>>
+        ensures shorter { IfSome result (λ a. length a.after.now < length part.now) }
+        ensures taken { (l : List ℕ) → Holds self.old l → TakesIn l self.old.ended part.now result self.new }
     {
-        let (line, after) = part.split_at(line_end(part));
-        self.extend(line);
-        if after.is_empty() {
-            return (None, after);
-        }
-        let (_, next) = after.split_at(1);
-        (Some(self.end(heap)), next)
+        let Some(end) = part.iter().position(|b| *b == b'\n') else {
+            self.extend(part);
+            return None;
+        };
+        self.extend(&part[..end]);
+        Some(Answered {
+            answer: self.end(),
+            after: &part[end + 1..],
+        })
     }
 
     // Whether a line is begun, of which something was taken in.
     pub fn is_begun(&self) -> bool
         ensures { (l : List ℕ) → Holds self.now l → Decides result (0 < length l) }
     {
-        match self.state {
-            State::Whole => !self.line.is_empty(),
-            _ => true,
+        match &self.line {
+            Ok(line) => !line.is_empty(),
+            Err(_) => true,
         }
     }
 }

@@ -1,33 +1,39 @@
 // A line of the script as a step to play.
-ghost use Rattle.rehearsal.specs.Messages.{StepRead};
+ghost use Rattle.rehearsal.specs.Steps.{StepRead};
+ghost use Rattle.rehearsal.specs.Answers.{Plays};
 
-use crate::fault::Fault;
-use crate::message::Message;
-use crate::quote::quoted;
-use crate::scan::{is_word, next_word};
+use crate::answer::Answer;
+use script::{Fault, Forms, Message, is_word, next_word, quoted};
 use std::alloc::Global;
 
 #[derive(Drop)]
 pub enum Step {
-    // a line without words, or a comment
-    Pass,
     // the digest of these bytes
     Digest(Message),
 }
 
 impl Step {
-    pub fn read(heap: Global, line: &[u8]) -> Result<Step, Fault>
+    // None for a line without words, and for a comment.
+    pub fn read(heap: Global, line: &[u8]) -> Result<Option<Step>, Fault>
         ensures { StepRead line.now result }
     {
         let Some((name, others)) = next_word(line) else {
-            return Ok(Step::Pass);
+            return Ok(None);
         };
         if name[0] == b'#' {
-            return Ok(Step::Pass);
+            return Ok(None);
         }
         if is_word(name, b"digest") {
-            return Ok(Step::Digest(Message::read(heap, others)?));
+            return Ok(Some(Step::Digest(Message::read(heap, others, Forms::OfDigest)?)));
         }
         Err(Fault::UnknownStep(quoted(heap, name)?))
+    }
+
+    pub fn play(self) -> Answer
+        ensures { Plays self result }
+    {
+        match self {
+            Step::Digest(message) => Answer::Digest(message.digest()),
+        }
     }
 }

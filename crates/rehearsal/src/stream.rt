@@ -1,33 +1,26 @@
 // From standard input to standard output.
-use crate::answer::Answer;
+use crate::line::LineAnswer;
 use crate::pending::Pending;
-use std::alloc::Global;
 use std::io;
 use std::io::Read;
 
 // How much of the script is read at a time.
 const CHUNK: usize = 65_536;
 
-// Writes an answer, unless it is that nothing is written.
-fn write_answer(rt: &impl Print, answer: Answer) -> io::Result<()> {
+fn write_answer(rt: &impl Print, answer: LineAnswer) -> io::Result<()> {
     match answer {
-        Answer::Nothing => Ok(()),
-        other => println!(rt; "{other}"),
+        Ok(Some(answer)) => println!(rt; "{answer}"),
+        Ok(None) => Ok(()),
+        Err(fault) => println!(rt; "{fault}"),
     }
 }
 
 // Takes in a part of the script, and writes the answer to each line that ends in it.
-fn play_part(rt: &impl Print, heap: Global, pending: &mut Pending, part: &[u8]) -> io::Result<()> {
+fn play_part(rt: &impl Print, pending: &mut Pending, part: &[u8]) -> io::Result<()> {
     let mut rest = part;
-    for _ in 0..part.len() {
-        let (answer, after) = pending.take_in(heap, rest);
-        if let Some(answer) = answer {
-            write_answer(rt, answer)?;
-        }
-        if after.is_empty() {
-            break;
-        }
-        rest = after;
+    while let Some(answered) = pending.take_in(rest) {
+        write_answer(rt, answered.answer)?;
+        rest = answered.after;
     }
     Ok(())
 }
@@ -40,14 +33,14 @@ pub fn play(rt: &HostRuntime) -> io::Result<()> {
     let mut pending = Pending::new(heap);
     // Nothing says that an input ends, and every loop has to.
     for _ in 0..u64::MAX {
-        let n = input.read(buffer.as_mut_slice())?;
+        let n = input.read(&mut buffer)?;
         if n == 0 {
             break;
         }
-        play_part(rt, heap, &mut pending, &buffer.as_slice()[0..n])?;
+        play_part(rt, &mut pending, &buffer[..n])?;
     }
     if pending.is_begun() {
-        write_answer(rt, pending.end(heap))?;
+        write_answer(rt, pending.end())?;
     }
     Ok(())
 }

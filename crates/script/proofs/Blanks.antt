@@ -1,63 +1,66 @@
--- Runs of bytes that are blank, or are not.
+-- Where the first word of a line begins, and where it ends.
 -- Assumes nothing.
-use Rattle.std.proofs.Common.{◌≡◌, ℕ, ◌+◌, ◌<◌, ◌≤◌, Bool, true, false, not, List, [], ◌∷◌, length, get_or, take, drop, sym, ap, ◌∙◌, ⊎_elim, true≢false, not-suc-le-zero, one-add, arith, length-take}
-use mathlib.Core.Bool.{beq}
-use lib.Seq.{take-nil}
-use Rattle.std.specs.List.{prefix_len}
-use Rattle.std.proofs.lemmas.List.{nil_from_length}
-use Rattle.std.proofs.lemmas.Bool.{cases_Bool}
-use Rattle.std.proofs.lemmas.List.Sums.{prefix_len-drop_yes, prefix_len-drop_no, prefix_len-drop_all, prefix_len-le-length}
-use Rattle.script.specs.Lines.{blank, of_kind, trimmed, first}
+use Rattle.std.proofs.Common.{◌≡◌, ℕ, ◌+◌, ◌-◌, ◌<◌, ◌≤◌, Bool, true, false, cond, not, ltb, List, [], ◌∷◌, length, get_or, take, drop, Some, None, unwrap_or, sym, refl, ap, ◌∙◌, not-suc-le-zero, arith, length-take, length-drop, take_all}
+use Rattle.std.specs.List.{prefix_len, position, position_or_len}
+use Rattle.std.proofs.lemmas.List.{nil_from_length, get_or-drop}
+use Rattle.std.proofs.lemmas.Bool.Decides.{nat_tests}
+use Rattle.std.proofs.lemmas.List.Sums.{prefix_len-le-length, position_or_len_is}
+use Rattle.std.proofs.lemmas.List.Quantifiers.{position-Some}
+use Rattle.script.specs.Lines.{blank, trimmed, first}
 
-kind_same : (x b : Bool) (c : ℕ) → x ≡ blank c → beq x b ≡ true → of_kind b c ≡ true
-kind_same true true c e t = sym e
-kind_same false true c e t = absurd (true≢false (sym t))
-kind_same true false c e t = absurd (true≢false (sym t))
-kind_same false false c e t = ap not (sym e)
+not-not : (b : Bool) → not (not b) ≡ b
+not-not true = refl
+not-not false = refl
 
-kind_other : (x b : Bool) (c : ℕ) → x ≡ blank c → beq x b ≡ false → of_kind b c ≡ false
-kind_other true true c e t = absurd (true≢false t)
-kind_other false true c e t = sym e
-kind_other true false c e t = ap not (sym e)
-kind_other false false c e t = absurd (true≢false t)
+at_none : (b : Bool) (n : ℕ) → cond b (Some n) None ≡ None → b ≡ false
+at_none true n e = absurd cc
+at_none false n e = refl
 
--- a loop along a line: one byte more of the run, the run's end, and the line's end
-module _ (b : Bool) (line : List ℕ) (n : ℕ) (so_far : n + prefix_len (of_kind b) (drop n line) ≡ prefix_len (of_kind b) line) where
-  pub run_more : (x : Bool) → n < length line → x ≡ blank (get_or line n 0) → beq x b ≡ true → n + 1 + prefix_len (of_kind b) (drop (n + 1) line) ≡ prefix_len (of_kind b) line
-  run_more x h e t =
-      let y = prefix_len-drop_yes (of_kind b) line n 0 h (kind_same x b (get_or line n 0) e t) in
-      omega arith
-
-  pub run_stops : (x : Bool) → n < length line → x ≡ blank (get_or line n 0) → beq x b ≡ false → n ≡ prefix_len (of_kind b) line
-  run_stops x h e t =
-      let y = prefix_len-drop_no (of_kind b) line n 0 h (kind_other x b (get_or line n 0) e t) in
-      omega arith
-
-  pub run_all : length line ≤ n → n ≡ prefix_len (of_kind b) line
-  run_all h = let y = prefix_len-drop_all (of_kind b) line n h in omega arith
-
--- after a run of bytes that pass comes one that does not
-stops : (p : ℕ → Bool) (xs : List ℕ) → 0 < length (drop (prefix_len p xs) xs) → p (get_or (drop (prefix_len p xs) xs) 0 0) ≡ false
-stops p [] h = absurd (not-suc-le-zero h)
-stops p (x ∷ xs) h =
-    ⊎_elim
-    (λ (e : p x ≡ true). rw (e, one-add) (stops p xs (rw (e, one-add) at h)))
-    (λ (e : p x ≡ false). rw e e)
-    (cases_Bool (p x))
+or_end : (b : Bool) (n most : ℕ) → n ≤ most → ltb n most ≡ b → unwrap_or (cond b (Some n) None) most ≡ n
+or_end true n most h e = refl
+or_end false n most h e = grind (arith, nat_tests)
 
 leads : (p : ℕ → Bool) (xs : List ℕ) → 0 < length xs → p (get_or xs 0 0) ≡ true → 0 < prefix_len p xs
 leads p [] h e = absurd (not-suc-le-zero h)
 leads p (x ∷ xs) h e = rw e (omega arith)
 
--- the first word is empty only where there is none
-pub first_none : (l : List ℕ) → length (trimmed l) ≡ 0 → first l ≡ []
-unfolding first
-first_none l h = ap (take (prefix_len (of_kind false) (trimmed l))) (nil_from_length (trimmed l) h) ∙ take-nil (prefix_len (of_kind false) (trimmed l))
+-- the first byte that is not blank stands behind those that are
+behind : (l : List ℕ) → position_or_len (λ c. not (blank c)) l ≡ prefix_len blank l
+behind l = λ i. prefix_len (λ (c : ℕ). not-not (blank c) i) l
 
-pub first_some : (l : List ℕ) → 0 < length (trimmed l) → 0 < length (first l)
-unfolding first trimmed
-first_some l h =
-    let e : of_kind false (get_or (trimmed l) 0 0) ≡ true = ap not (stops (of_kind true) l h) in
-    let some = leads (of_kind false) (trimmed l) h e in
-    let most = prefix_len-le-length (of_kind false) (trimmed l) in
+-- there is a word, and it begins here
+pub begins : (l : List ℕ) (start : ℕ) → position (λ c. not (blank c)) l ≡ Some start → drop start l ≡ trimmed l
+unfolding trimmed
+begins l start e =
+    let at = position-Some (λ c. not (blank c)) l start 0 e in
+    ap (λ (n : ℕ). drop n l) (sym (position_or_len_is (λ c. not (blank c)) l start 0 (omega arith) at.2 (λ _. at.1)) ∙ behind l)
+
+-- and is not empty
+pub first_some : (l : List ℕ) (start : ℕ) → position (λ c. not (blank c)) l ≡ Some start → 0 < length (first l)
+unfolding first
+first_some l start e =
+    let at = position-Some (λ c. not (blank c)) l start 0 e in
+    let here = begins l start e in
+    let some : 0 < length (trimmed l) = omega (arith, ap length here, length-drop start l) in
+    let from : start + 0 ≡ start = omega arith in
+    let same : get_or (trimmed l) 0 0 ≡ get_or l start 0 = ap (λ (t : List ℕ). get_or t 0 0) (sym here) ∙ get_or-drop start l 0 0 ∙ ap (λ (k : ℕ). get_or l k 0) from in
+    let more = leads (λ c. not (blank c)) (trimmed l) some (ap (λ (c : ℕ). not (blank c)) same ∙ at.1) in
+    let most = prefix_len-le-length (λ c. not (blank c)) (trimmed l) in
     rw length-take (omega arith)
+
+-- there is none
+pub first_none : (l : List ℕ) → position (λ c. not (blank c)) l ≡ None → first l ≡ []
+unfolding first trimmed
+first_none l e =
+    let first_at = behind l in
+    let outside : length l ≤ prefix_len blank l = let t = at_none _ _ e in grind (arith, nat_tests) in
+    let none : trimmed l ≡ [] = nil_from_length (trimmed l) (rw length-drop (omega arith)) in
+    ap (λ (t : List ℕ). take (position_or_len blank t) t) none
+
+-- the bytes from one on, as a slice of them is read
+pub from_on : (l : List ℕ) (i : ℕ) → take (length l - i) (drop i l) ≡ drop i l
+from_on l i = take_all (length l - i) (drop i l) (rw length-drop (omega arith))
+
+-- where the first word ends
+pub ends : (l : List ℕ) → unwrap_or (position blank l) (length l) ≡ position_or_len blank l
+ends l = or_end _ _ _ (prefix_len-le-length (λ c. not (blank c)) l) refl

@@ -1,6 +1,6 @@
 -- Bytes of the generator, one after the other and many at a time.
 -- Assumes nothing.
-use Rattle.std.proofs.Common.{◌≡◌, ℕ, zero, suc, ◌+◌, ◌/◌, ◌^◌, ◌≤◌, List, [], ◌∷◌, ◌++◌, length, take, refl, ap, ◌∙◌, le_of_suc-le-suc, suc-add, zero-add}
+use Rattle.std.proofs.Common.{◌≡◌, ℕ, zero, suc, ◌+◌, ◌/◌, ◌^◌, List, [], ◌∷◌, ◌++◌, length, refl, ap, ◌∙◌, suc-add, zero-add}
 use Rattle.script.specs.Generators.{advance, advanced, generated}
 
 -- the bytes after the first m follow from the number that is reached then
@@ -9,7 +9,7 @@ unfolding generated advanced
 generated_add x zero n = ap (generated x) (zero-add n)
 generated_add x (suc m) n = ap (generated x) (suc-add m n) ∙ ap (λ (l : List ℕ). (advance x / 2 ^ 56) ∷ l) (generated_add (advance x) m n)
 
-pub advanced_add : (x m n : ℕ) → advanced x (m + n) ≡ advanced (advanced x m) n
+advanced_add : (x m n : ℕ) → advanced x (m + n) ≡ advanced (advanced x m) n
 unfolding advanced
 advanced_add x zero n = ap (advanced x) (zero-add n)
 advanced_add x (suc m) n = ap (advanced x) (suc-add m n) ∙ advanced_add (advance x) m n
@@ -22,12 +22,6 @@ generated_more x n = generated_add x n 1
 pub advanced_more : (x n : ℕ) → advanced x (n + 1) ≡ advance (advanced x n)
 unfolding advanced
 advanced_more x n = advanced_add x n 1
-
-pub take-generated : (x m n : ℕ) → m ≤ n → take m (generated x n) ≡ generated x m
-unfolding generated
-take-generated x zero n h = refl
-take-generated x (suc m) zero h = elim h [ ]
-take-generated x (suc m) (suc n) h = ap (λ (l : List ℕ). (advance x / 2 ^ 56) ∷ l) (take-generated (advance x) m n (le_of_suc-le-suc h))
 
 pub length-generated : (x n : ℕ) → length (generated x n) ≡ n
 unfolding generated

@@ -1,21 +1,37 @@
 -- Numbers that are read digit by digit.
 -- Assumes nothing.
-use Rattle.std.proofs.Common.{◌≡◌, ℕ, ◌+◌, ◌-◌, ◌*◌, ◌%◌, ◌<◌, ◌≤◌, leb, List, [], ◌∷◌, ◌++◌, length, get_or, take, drop, is_some, IsErrAnd, Some, Ok, fold, Option, Result, Vec, unwrap_or, sym, refl, ap, ◌∙◌, subst, ⊎_elim, not-suc-le-zero, arith, take-append-drop, length-take-le, take_all, drop-cons}
+use Rattle.std.proofs.Common.{◌≡◌, ℕ, zero, suc, ◌+◌, ◌-◌, ◌*◌, ◌/◌, ◌%◌, ◌<◌, ◌≤◌, List, [], ◌∷◌, ◌++◌, length, get_or, take, drop, is_some, IsErrAnd, Some, Ok, fold, Option, Result, Vec, unwrap_or, sym, refl, ap, ◌∙◌, subst, ⊎_elim, not-suc-le-zero, arith, take-append-drop, length-take-le, take_all}
 use Rattle.std.specs.declared.alloc.Global.{Global}
+use Rattle.std.proofs.lemmas.List.{get_or-drop}
 use Rattle.std.proofs.lemmas.Result.{err_from_is_err_and}
-use Rattle.std.proofs.lemmas.List.Sums.{fold_more}
-use Rattle.std.proofs.lemmas.Bool.{cases_lt, and_from, le-leb}
+use Rattle.std.proofs.lemmas.List.Sums.{fold-append, fold_more}
+use Rattle.std.proofs.lemmas.Bool.{cases_lt}
 use Rattle.digest.proofs.Digits.{take_two}
+use Rattle.std.specs.Simd.{first_chunks}
 use Rattle.script.specs.declared.fault.Fault.{Fault}
-use Rattle.script.specs.declared.fault.Fault.TheVariants.{TooLong, NoMemory, UnknownStep, BytesForm, NoHexDigit, OddDigits, NoByte, NoNumber}
-use Rattle.script.specs.Numbers.{hex_value, HexDigits, paired, DecimalDigits, decimal_value, between}
-use Rattle.script.specs.Readings.{NoDigitAt, HexBlamed, HexRead, ByteRead}
+use Rattle.script.specs.declared.fault.Fault.TheVariants.{TooLong, NoMemory, UnknownStep, WrongForm, NoHexDigit, OddDigits, NoByte, NoNumber}
+use Rattle.script.specs.Numbers.{hex_value, HexDigits, paired, decimal_value}
+use Rattle.script.specs.Readings.{NoDigit, HexBlamed, HexRead, ByteRead}
 
--- the part of a word that is one byte
-pub one_byte : (w : List ℕ) (i : ℕ) → i < length w → take (i + 1 - i) (drop i w) ≡ get_or w i 0 ∷ []
-one_byte w i h =
-    let n : i + 1 - i ≡ 1 = omega arith in
-    ap (λ (k : ℕ). take k (drop i w)) n ∙ ap (take 1) (drop-cons w i 0 h)
+chunk_at : (w : List ℕ) (k i : ℕ) → i < k → 2 * k ≤ length w → get_or (first_chunks 2 k w) i [] ≡ get_or w (2 * i) 0 ∷ (get_or w (2 * i + 1) 0 ∷ [])
+chunk_at w zero i h l = absurd (omega arith)
+chunk_at [] (suc k) i h l = absurd (omega arith)
+chunk_at (x ∷ []) (suc k) i h l = absurd (omega arith)
+chunk_at (x ∷ (y ∷ w)) (suc k) zero h l = refl
+chunk_at (x ∷ (y ∷ w)) (suc k) (suc i) h l =
+    let a : suc (suc (2 * i)) ≡ 2 * suc i = omega arith in
+    let b : suc (suc (2 * i + 1)) ≡ 2 * suc i + 1 = omega arith in
+    chunk_at w k i (omega arith) (omega arith) ∙ (λ j. get_or (x ∷ (y ∷ w)) (a j) 0 ∷ (get_or (x ∷ (y ∷ w)) (b j) 0 ∷ []))
+
+-- the digits of one of a word's pairs
+pub pair_at : (w : List ℕ) (pairs : List (List ℕ)) (i : ℕ) → pairs ≡ first_chunks 2 (length w / 2) w → i < length w / 2 → get_or pairs i [] ≡ get_or w (2 * i) 0 ∷ (get_or w (2 * i + 1) 0 ∷ [])
+pair_at w pairs i cut h = ap (λ (l : List (List ℕ)). get_or l i []) cut ∙ chunk_at w (length w / 2) i h (omega arith)
+
+-- the digit that is left of an odd number of them
+pub last_at : (w last : List ℕ) → last ≡ drop (length w / 2 * 2) w → length w % 2 ≡ 1 → get_or last 0 0 ≡ get_or w (length w - 1) 0
+last_at w last cut odd =
+    let n : length w / 2 * 2 + 0 ≡ length w - 1 = omega arith in
+    ap (λ (l : List ℕ). get_or l 0 0) cut ∙ get_or-drop (length w / 2 * 2) w 0 0 ∙ ap (λ (k : ℕ). get_or w k 0) n
 
 -- one digit more
 pub digits_more : (w : List ℕ) (i d : ℕ) → HexDigits w i → hex_value (get_or w i 0) ≡ Some d → HexDigits w (i + 1)
@@ -31,19 +47,21 @@ pub digits_at : (w : List ℕ) (i j : ℕ) → i ≡ j → HexDigits w i → Hex
 digits_at w i j e h = subst (HexDigits w) e h
 
 -- the digit that is none is the first one
-blamed_at : (w : List ℕ) (i : ℕ) (f : Fault) → i < length w → HexDigits w i → NoDigitAt w i f → HexBlamed w f
+blamed_at : (w : List ℕ) (i : ℕ) (f : Fault) → i < length w → HexDigits w i → NoDigit (get_or w i 0) (i + 1) f → HexBlamed w f
 blamed_at w i TooLong h k n = n
 blamed_at w i NoMemory h k n = tt
 blamed_at w i (UnknownStep t) h k n = n
-blamed_at w i BytesForm h k n = n
+blamed_at w i (WrongForm forms) h k n = n
 blamed_at w i (NoHexDigit t place) h k n = (i, h, k, n)
 blamed_at w i (OddDigits m) h k n = absurd n
 blamed_at w i (NoByte t) h k n = n
 blamed_at w i (NoNumber t) h k n = n
 
 -- where a digit's fault is passed on
-pub hex_exit : (w : List ℕ) (i : ℕ) (f : Fault) (r : Result (Vec ℕ Global) Fault) → i < length w → HexDigits w i → NoDigitAt w i f → IsErrAnd r (λ y. y ≡ f) → HexRead w r
-hex_exit w i f r h k n e = let p = err_from_is_err_and r e in rw (p.1, p.2) (blamed_at w i f h k n)
+pub hex_exit : (w : List ℕ) (i c place : ℕ) (f : Fault) (r : Result (Vec ℕ Global) Fault) → i < length w → HexDigits w i → c ≡ get_or w i 0 → place ≡ i + 1 → NoDigit c place f → IsErrAnd r (λ y. y ≡ f) → HexRead w r
+hex_exit w i c place f r h k at last n e =
+    let p = err_from_is_err_and r e in
+    rw (p.1, p.2) (blamed_at w i f h k (subst (λ (x : ℕ). NoDigit x (i + 1) f) at (subst (λ (x : ℕ). NoDigit c x f) last n)))
 
 paired-push : (xs : List ℕ) (c d : ℕ) → length xs % 2 ≡ 0 → paired (xs ++ (c ∷ (d ∷ []))) ≡ paired xs ++ ((unwrap_or (hex_value c) 0 * 16 + unwrap_or (hex_value d) 0) ∷ [])
 unfolding paired
@@ -71,17 +89,6 @@ two_digits w m n l p q =
     let all = ap paired (sym (take_all 2 w (omega arith))) ∙ paired_more w 0 m n (omega arith) p q in
     (l, both, all)
 
--- decimal digits
-pub decimals_more : (w : List ℕ) (i : ℕ) → DecimalDigits w i → 48 ≤ get_or w i 0 → get_or w i 0 ≤ 57 → DecimalDigits w (i + 1)
-decimals_more w i so_far low high =
-    let e = and_from (leb 48 (get_or w i 0)) (leb (get_or w i 0) 57) (le-leb 48 (get_or w i 0) low) (le-leb (get_or w i 0) 57 high) in
-    λ k h.
-    ⊎_elim (λ (below : k < i). so_far k below)
-    (λ (last : i ≤ k).
-    let same : k ≡ i = omega arith in
-    ap (λ (j : ℕ). between 48 57 (get_or w j 0)) same ∙ e)
-    (cases_lt k i)
-
 abbrev step : ℕ → ℕ → ℕ
 step n c = n * 10 + (c - 48)
 
@@ -89,14 +96,10 @@ grows : (n : ℕ) (w : List ℕ) → n ≤ fold step n w
 grows n [] = omega arith
 grows n (c ∷ w) = let ih = grows (n * 10 + (c - 48)) w in omega arith
 
-folded-append : (n : ℕ) (xs ys : List ℕ) → fold step n (xs ++ ys) ≡ fold step (fold step n xs) ys
-folded-append n [] ys = refl
-folded-append n (x ∷ xs) ys = folded-append (n * 10 + (x - 48)) xs ys
-
 -- digits that follow do not make a number smaller
 pub decimal_front : (w : List ℕ) (i : ℕ) → decimal_value (take i w) ≤ decimal_value w
 decimal_front w i =
-    let whole : decimal_value w ≡ fold step (decimal_value (take i w)) (drop i w) = ap (fold step 0) (sym (take-append-drop i w)) ∙ folded-append 0 (take i w) (drop i w) in
+    let whole : decimal_value w ≡ fold step (decimal_value (take i w)) (drop i w) = ap (fold step 0) (sym (take-append-drop i w)) ∙ fold-append step 0 (take i w) (drop i w) in
     let more = grows (decimal_value (take i w)) (drop i w) in
     omega arith
 

@@ -1,9 +1,11 @@
 -- Bytes as they are shown, one after the other.
 -- Assumes nothing.
-use Rattle.std.proofs.Common.{◌≡◌, ℕ, ◌+◌, ◌/◌, ◌%◌, ◌<◌, List, [], ◌∷◌, ◌++◌, length, get_or, take, codes, sym, ap, ◌∙◌, append_assoc, append-nil}
+use Rattle.std.proofs.Common.{◌≡◌, ℕ, ◌+◌, ◌-◌, ◌^◌, ◌<◌, ◌≤◌, false, List, [], ◌∷◌, ◌++◌, length, get_or, take, codes, sym, ap, ◌∙◌, append_assoc, append-nil}
 use Rattle.std.proofs.lemmas.List.{take_more}
-use Rattle.digest.specs.Hex.{digit}
-use Rattle.script.specs.Quotes.{escaped, shown_byte, shown_bytes}
+use Rattle.std.specs.Fmt.{padded_integral, format_spec, digits}
+use Rattle.std.proofs.lemmas.Fmt.{hex_byte}
+use Rattle.std.proofs.lemmas.Bool.{lt-ltb, le-ltb, cond-true, cond-false}
+use Rattle.script.specs.Quotes.{plain, escaped, shown_byte, shown_bytes, fronted, quotation}
 
 shown-push : (bs : List ℕ) (b : ℕ) → shown_bytes (bs ++ (b ∷ [])) ≡ shown_bytes bs ++ shown_byte b
 unfolding shown_bytes
@@ -11,14 +13,20 @@ shown-push [] b = append-nil (shown_byte b)
 shown-push (x ∷ bs) b = ap (λ (l : List ℕ). shown_byte x ++ l) (shown-push bs b) ∙ sym (append_assoc (shown_byte x) (shown_bytes bs) (shown_byte b))
 
 -- one byte more
-pub shown_more : (a bs : List ℕ) (i : ℕ) → i < length bs → a ++ shown_bytes (take (i + 1) bs) ≡ a ++ shown_bytes (take i bs) ++ shown_byte (get_or bs i 0)
-shown_more a bs i h =
-    ap (λ (l : List ℕ). a ++ l) (ap shown_bytes (take_more bs i 0 h) ∙ shown-push (take i bs) (get_or bs i 0))
-    ∙ sym (append_assoc a (shown_bytes (take i bs)) (shown_byte (get_or bs i 0)))
+pub shown_more : (bs : List ℕ) (i : ℕ) → i < length bs → shown_bytes (take (i + 1) bs) ≡ shown_bytes (take i bs) ++ shown_byte (get_or bs i 0)
+shown_more bs i h = ap shown_bytes (take_more bs i 0 h) ∙ shown-push (take i bs) (get_or bs i 0)
 
--- the parts of what stands for a byte that is not shown as itself
-pub escaped_parts : (a p q : List ℕ) (b x y : ℕ) → p ≡ x ∷ [] → q ≡ y ∷ [] → x ≡ digit (b / 16) → y ≡ digit (b % 16) → a ++ codes "\\x" ++ p ++ q ≡ a ++ escaped b
-escaped_parts a p q b x y hp hq hx hy =
-    (λ i. a ++ codes "\\x" ++ hp i ++ hq i)
-    ∙ (λ i. a ++ codes "\\x" ++ (hx i ∷ []) ++ (hy i ∷ []))
-    ∙ simp append_assoc
+-- a byte that is not shown as itself
+pub shown_escaped : (b : ℕ) → b < 256 → plain b ≡ false → 92 ∷ (120 ∷ padded_integral (format_spec 32 0 4 2 (2 ^ 64 - 1)) false [] (digits 16 false b)) ≡ shown_byte b
+shown_escaped b small h = ap (λ (l : List ℕ). 92 ∷ (120 ∷ l)) (hex_byte false b small) ∙ sym (cond-false _ (b ∷ []) (escaped b) h)
+
+-- a word between apostrophes, with all of it and with its front
+pub quoted_whole : (w : List ℕ) → length w ≤ 32 → 39 ∷ (shown_bytes w ++ (39 ∷ [])) ≡ quotation w
+unfolding fronted quotation
+quoted_whole w h = ap (λ (l : List ℕ). 39 ∷ (l ++ (39 ∷ []))) (sym (cond-false _ (shown_bytes (take 32 w) ++ codes "..") (shown_bytes w) (le-ltb 32 (length w) h)))
+
+pub quoted_front : (w : List ℕ) → 32 < length w → 39 ∷ (shown_bytes (take 32 w) ++ (46 ∷ (46 ∷ (39 ∷ [])))) ≡ quotation w
+unfolding fronted quotation
+quoted_front w h =
+    ap (λ (l : List ℕ). 39 ∷ l) (sym (append_assoc (shown_bytes (take 32 w)) (codes "..") (39 ∷ [])))
+    ∙ ap (λ (l : List ℕ). 39 ∷ (l ++ (39 ∷ []))) (sym (cond-true _ (shown_bytes (take 32 w) ++ codes "..") (shown_bytes w) (lt-ltb 32 (length w) h)))

@@ -1,24 +1,29 @@
 -- Faults that one reading passes on to the next.
 -- Assumes nothing.
-use Rattle.std.proofs.Common.{◌≡◌, ℕ, List, IsErrAnd, Result}
+use Rattle.std.proofs.Common.{◌≡◌, ℕ, ◌<◌, List, length, IsErrAnd, Err, Result, subst, rules}
 use Rattle.std.proofs.lemmas.Result.{err_from_is_err_and}
+use Rattle.script.specs.declared.forms.Forms.{Forms}
 use Rattle.script.specs.declared.fault.Fault.{Fault}
-use Rattle.script.specs.declared.fault.Fault.TheVariants.{TooLong, NoMemory, UnknownStep, BytesForm, NoHexDigit, OddDigits, NoByte, NoNumber}
+use Rattle.script.specs.declared.fault.Fault.TheVariants.{TooLong, NoMemory, UnknownStep, WrongForm, NoHexDigit, OddDigits, NoByte, NoNumber}
 use Rattle.script.specs.declared.message.Message.{Message}
-use Rattle.script.specs.Readings.{NumberBlamed}
-use Rattle.script.specs.Messages.{WordsBlamed, MessageBlamed, MessageRead}
+use Rattle.script.specs.Lines.{first, rest}
+use Rattle.script.specs.Readings.{ByteRead, NumberRead}
+use Rattle.script.specs.Messages.{repeat, TwoRead, MessageBlamed, MessageRead}
 
--- what is wrong with a form's last word, a count, is wrong with the words
-number_wrong : (l w : List ℕ) (f : Fault) → NumberBlamed w f → (NumberBlamed w f → WordsBlamed l f) → MessageBlamed l f
-number_wrong l w TooLong h to = h
-number_wrong l w NoMemory h to = to h
-number_wrong l w (UnknownStep t) h to = h
-number_wrong l w BytesForm h to = absurd h
-number_wrong l w (NoHexDigit t place) h to = absurd h
-number_wrong l w (OddDigits n) h to = absurd h
-number_wrong l w (NoByte t) h to = absurd h
-number_wrong l w (NoNumber t) h to = to h
+-- what is wrong with the byte and the count is wrong with the words of the step
+repeat_wrong : (forms : Forms) (l : List ℕ) (f : Fault) → 0 < length (first l) → first l ≡ repeat → TwoRead ByteRead NumberRead forms (rest l) (Err f) → MessageBlamed forms l f
+repeat_wrong forms l TooLong some named h = search rules
+repeat_wrong forms l NoMemory some named h = search rules
+repeat_wrong forms l (UnknownStep t) some named h = search rules
+repeat_wrong forms l (WrongForm taken) some named h = search rules
+repeat_wrong forms l (NoHexDigit t place) some named h = search rules
+repeat_wrong forms l (OddDigits n) some named h = search rules
+repeat_wrong forms l (NoByte t) some named h = search rules
+repeat_wrong forms l (NoNumber t) some named h = search rules
 
--- from a count to the message
-pub number_exits : (l w : List ℕ) (f : Fault) (r : Result Message Fault) → IsErrAnd r (λ y. y ≡ f) → NumberBlamed w f → (NumberBlamed w f → WordsBlamed l f) → MessageRead l r
-number_exits l w f r passed h to = let p = err_from_is_err_and r passed in rw (p.1, p.2) (number_wrong l w f h to)
+-- and is passed on
+pub repeat_exits : (forms : Forms) (l behind : List ℕ) (f : Fault) (r : Result Message Fault) → IsErrAnd r (λ y. y ≡ f) → 0 < length (first l) → first l ≡ repeat → behind ≡ rest l → TwoRead ByteRead NumberRead forms behind (Err f)
+    → MessageRead forms l r
+repeat_exits forms l behind f r passed some named after h =
+    let p = err_from_is_err_and r passed in
+    rw (p.1, p.2) (repeat_wrong forms l f some named (subst (λ (w : List ℕ). TwoRead ByteRead NumberRead forms w (Err f)) after h))

@@ -4,33 +4,33 @@
 use Rattle.std.specs.Prelude.{◌≡◌, ℕ, ◌+◌, ◌%◌, ◌<◌, ◌≤◌, List, [], ◌∷◌, length, Some, None, Ok, Err, vec_items, string_bytes, Option, Result, Vec, slice_index}
 use Rattle.std.specs.declared.alloc.Global.{Global}
 use Rattle.script.specs.declared.fault.Fault.{Fault}
-use Rattle.script.specs.declared.fault.Fault.TheVariants.{TooLong, NoMemory, UnknownStep, BytesForm, NoHexDigit, OddDigits, NoByte, NoNumber}
+use Rattle.script.specs.declared.fault.Fault.TheVariants.{TooLong, NoMemory, UnknownStep, WrongForm, NoHexDigit, OddDigits, NoByte, NoNumber}
 use Rattle.script.specs.Numbers.{hex_value, HexDigits, paired, DecimalDigits, decimal_value, most_number}
 use Rattle.script.specs.Quotes.{quotation}
 
--- the byte i of a word is not a hexadecimal digit; places are counted from 1
-abbrev pub NoDigitAt : List ℕ → ℕ → Fault → Type 0
-NoDigitAt w i TooLong = ⊥
-NoDigitAt w i NoMemory = hex_value (slice_index w i) ≡ None
-NoDigitAt w i (UnknownStep t) = ⊥
-NoDigitAt w i BytesForm = ⊥
-NoDigitAt w i (NoHexDigit t place) = (place ≡ i + 1) × (hex_value (slice_index w i) ≡ None) × (string_bytes t ≡ quotation (slice_index w i ∷ []))
-NoDigitAt w i (OddDigits n) = ⊥
-NoDigitAt w i (NoByte t) = ⊥
-NoDigitAt w i (NoNumber t) = ⊥
+-- c, at this place of a word, is not a hexadecimal digit; places are counted from 1
+abbrev pub NoDigit : ℕ → ℕ → Fault → Type 0
+NoDigit c place TooLong = ⊥
+NoDigit c place NoMemory = hex_value c ≡ None
+NoDigit c place (UnknownStep t) = ⊥
+NoDigit c place (WrongForm forms) = ⊥
+NoDigit c place (NoHexDigit t at) = (at ≡ place) × (hex_value c ≡ None) × (string_bytes t ≡ quotation (c ∷ []))
+NoDigit c place (OddDigits n) = ⊥
+NoDigit c place (NoByte t) = ⊥
+NoDigit c place (NoNumber t) = ⊥
 
--- the digit that the byte i of a word is
-abbrev pub DigitRead : List ℕ → ℕ → Result ℕ Fault → Type 0
-DigitRead w i (Ok d) = (d < 16) × (hex_value (slice_index w i) ≡ Some d)
-DigitRead w i (Err f) = NoDigitAt w i f
+-- the number that c, at this place, stands for as a digit
+abbrev pub DigitRead : ℕ → ℕ → Result ℕ Fault → Type 0
+DigitRead c place (Ok d) = (d < 16) × (hex_value c ≡ Some d)
+DigitRead c place (Err f) = NoDigit c place f
 
 -- a word is not the hexadecimal form of bytes: its first byte that is no digit, or else the odd number of its digits
 abbrev pub HexBlamed : List ℕ → Fault → Type 0
 HexBlamed w TooLong = ⊥
 HexBlamed w NoMemory = Unit {0}
 HexBlamed w (UnknownStep t) = ⊥
-HexBlamed w BytesForm = ⊥
-HexBlamed w (NoHexDigit t place) = (i : ℕ) × (i < length w) × HexDigits w i × NoDigitAt w i (NoHexDigit t place)
+HexBlamed w (WrongForm forms) = ⊥
+HexBlamed w (NoHexDigit t place) = (i : ℕ) × (i < length w) × HexDigits w i × NoDigit (slice_index w i) (i + 1) (NoHexDigit t place)
 HexBlamed w (OddDigits n) = HexDigits w (length w) × (length w % 2 ≡ 1) × (n ≡ length w)
 HexBlamed w (NoByte t) = ⊥
 HexBlamed w (NoNumber t) = ⊥
@@ -40,20 +40,25 @@ abbrev pub HexRead : List ℕ → Result (Vec ℕ Global) Fault → Type 0
 HexRead w (Ok v) = HexDigits w (length w) × (length w % 2 ≡ 0) × (vec_items v ≡ paired w)
 HexRead w (Err f) = HexBlamed w f
 
+-- the byte that a word is, if it is two hexadecimal digits
+abbrev pub ByteValue : List ℕ → Option ℕ → Type 0
+ByteValue w None = length w ≡ 2 → HexDigits w 2 → ⊥
+ByteValue w (Some b) = (length w ≡ 2) × HexDigits w 2 × (paired w ≡ b ∷ [])
+
 -- a word is not a byte of two hexadecimal digits
 abbrev pub ByteBlamed : List ℕ → Fault → Type 0
 ByteBlamed w TooLong = ⊥
-ByteBlamed w NoMemory = length w ≡ 2 → HexDigits w 2 → ⊥
+ByteBlamed w NoMemory = ByteValue w None
 ByteBlamed w (UnknownStep t) = ⊥
-ByteBlamed w BytesForm = ⊥
+ByteBlamed w (WrongForm forms) = ⊥
 ByteBlamed w (NoHexDigit t place) = ⊥
 ByteBlamed w (OddDigits n) = ⊥
-ByteBlamed w (NoByte t) = (length w ≡ 2 → HexDigits w 2 → ⊥) × (string_bytes t ≡ quotation w)
+ByteBlamed w (NoByte t) = ByteValue w None × (string_bytes t ≡ quotation w)
 ByteBlamed w (NoNumber t) = ⊥
 
 -- the byte that two hexadecimal digits are
 abbrev pub ByteRead : List ℕ → Result ℕ Fault → Type 0
-ByteRead w (Ok b) = (length w ≡ 2) × HexDigits w 2 × (paired w ≡ b ∷ [])
+ByteRead w (Ok b) = ByteValue w (Some b)
 ByteRead w (Err f) = ByteBlamed w f
 
 -- the number that a word is, if it is one and not too large
@@ -66,7 +71,7 @@ abbrev pub NumberBlamed : List ℕ → Fault → Type 0
 NumberBlamed w TooLong = ⊥
 NumberBlamed w NoMemory = NumberValue w None
 NumberBlamed w (UnknownStep t) = ⊥
-NumberBlamed w BytesForm = ⊥
+NumberBlamed w (WrongForm forms) = ⊥
 NumberBlamed w (NoHexDigit t place) = ⊥
 NumberBlamed w (OddDigits n) = ⊥
 NumberBlamed w (NoByte t) = ⊥

@@ -3,10 +3,11 @@ ghost use Rattle.std.specs.Prelude.{◌≡◌, Some};
 ghost use Rattle.script.specs.declared.fault.Fault.TheVariants.{NoMemory};
 ghost use Rattle.script.specs.Faults.{fault_text};
 
+use crate::forms::Forms;
 use std::alloc::{AllocError, AllocFailed};
 use std::fmt;
 
-#[derive(Drop)]
+#[derive(Debug, PartialEq, Eq, Drop)]
 pub enum Fault {
     // the line is longer than a line may be
     TooLong,
@@ -14,8 +15,8 @@ pub enum Fault {
     NoMemory,
     // no step has this name
     UnknownStep(String),
-    // none of the forms in which bytes are written
-    BytesForm,
+    // none of the forms that the step takes
+    WrongForm(Forms),
     // this is not a hexadecimal digit, at this place
     NoHexDigit(String, usize),
     // so many hexadecimal digits, an odd number
@@ -50,10 +51,7 @@ impl fmt::Display for Fault {
             Fault::TooLong => write!(f, "longer than 67108864 bytes"),
             Fault::NoMemory => write!(f, "there is not enough memory"),
             Fault::UnknownStep(word) => write!(f, "no step is called {word}"),
-            Fault::BytesForm => write!(
-                f,
-                "write bytes as HEX, as 'repeat BYTE COUNT' or as 'random SEED COUNT'"
-            ),
+            Fault::WrongForm(forms) => write!(f, "{forms}"),
             Fault::NoHexDigit(word, place) => {
                 write!(f, "{word} is not a hexadecimal digit, at place {place}")
             }

@@ -1,6 +1,8 @@
 // Bytes from a seed, as many as one likes.
-ghost use Rattle.std.specs.Prelude.{◌≡◌, ◌/◌, ◌^◌, length};
-ghost use Rattle.script.specs.Generators.{advance, advanced, generated};
+ghost use Rattle.std.specs.Prelude.{◌≡◌, ◌/◌, ◌^◌};
+ghost use Rattle.script.specs.Generators.{advance, generated};
+
+use crate::source::Source;
 
 #[derive(Drop)]
 pub struct Generator {
@@ -24,12 +26,12 @@ impl Generator {
             .wrapping_add(1_442_695_040_888_963_407);
         (self.number >> 56) as u8
     }
+}
 
-    // Writes the next bytes over all of these.
-    pub fn fill(&mut self, bytes: &mut [u8])
-        ensures bytes { bytes.new ≡ generated self.old.number (length bytes.old) }
-        ensures number { self.new.number ≡ advanced self.old.number (length bytes.old) }
-    {
+impl Source for Generator {
+    ghost next_bytes = { λ s n. generated s.number n };
+
+    fn fill(&mut self, bytes: &mut [u8]) {
         for byte in bytes.iter_mut() {
             *byte = self.next_byte();
         }

@@ -2,15 +2,18 @@
 #![tactic(auto)]
 
 mod fault;
+mod forms;
 mod generator;
 mod message;
 mod numerals;
 mod quote;
 mod scan;
+mod source;
 #[cfg(test)]
 mod tests;
 
 pub use fault::Fault;
+pub use forms::Forms;
 pub use message::Message;
 pub use quote::quoted;
 pub use scan::{is_word, next_word};

@@ -1,18 +1,19 @@
 // Bytes that a script gives, in one of the forms that it may write them in.
-ghost use Rattle.std.specs.Prelude.{◌≡◌, ℕ, ◌<◌, List, length, replicate, IfOk, MatchResult};
+ghost use Rattle.std.specs.Prelude.{◌≡◌, ◌<◌, length, IfOk, MatchResult};
 ghost use Rattle.script.specs.Generators.{generated};
-ghost use Rattle.script.specs.Lines.{first, rest};
 ghost use Rattle.digest.specs.Digests.{digest_of};
-ghost use Rattle.script.specs.Messages.{bytes_of, random, repeat, MessageRead};
+ghost use Rattle.script.specs.Messages.{bytes_of, TwoRead, MessageRead};
 
 use crate::fault::Fault;
+use crate::forms::Forms;
 use crate::generator::Generator;
-use crate::numerals::{read_byte, read_hex, read_number};
+use crate::numerals::{FromWord, read_hex};
 use crate::scan::{is_word, next_word, two_words};
+use crate::source::{Repeated, Source};
 use digest::{Digest, Hasher, sha256};
 use std::alloc::{AllocError, Global};
 
-#[derive(Drop)]
+#[derive(Debug, PartialEq, Eq, Drop)]
 pub enum Message {
     // these bytes
     Given(Vec<u8>),
@@ -22,46 +23,38 @@ pub enum Message {
     Random(u64, u64),
 }
 
+// The two words that a form has behind its name.
+fn read_two<A: FromWord, B: FromWord>(
+    heap: Global,
+    words: &[u8],
+    forms: Forms,
+) -> Result<(A, B), Fault>
+    ensures { TwoRead A.Reads B.Reads forms words.now result }
+{
+    let (one, two) = two_words(words).ok_or(Fault::WrongForm(forms))?;
+    Ok((A::from_word(heap, one)?, B::from_word(heap, two)?))
+}
+
 impl Message {
-    // What the words after a step's name spell: nothing, HEX, repeat BYTE COUNT, or random SEED COUNT.
-    pub fn read(heap: Global, words: &[u8]) -> Result<Message, Fault>
-        ensures { MessageRead words.now result }
+    // What the words after a step's name spell: nothing, HEX, repeat BYTE COUNT, or, where the step takes it, random SEED COUNT.
+    pub fn read(heap: Global, words: &[u8], forms: Forms) -> Result<Message, Fault>
+        ensures { MessageRead forms words.now result }
     {
         let Some((word, others)) = next_word(words) else {
             return Ok(Message::Given(Vec::new(heap)));
         };
         if is_word(word, b"repeat") {
-            return Message::read_repeated(heap, others);
+            let (byte, count) = read_two(heap, others, forms)?;
+            return Ok(Message::Repeated(byte, count));
         }
-        if is_word(word, b"random") {
-            return Message::read_random(heap, others);
+        if forms == Forms::Every && is_word(word, b"random") {
+            let (seed, count) = read_two(heap, others, forms)?;
+            return Ok(Message::Random(seed, count));
         }
         if next_word(others).is_some() {
-            return Err(Fault::BytesForm);
+            return Err(Fault::WrongForm(forms));
         }
         Ok(Message::Given(read_hex(heap, word)?))
-    }
-
-    // The words after `repeat`.
-    fn read_repeated(heap: Global, words: &[u8]) -> Result<Message, Fault>
-        ensures { (l : List ℕ) → first l ≡ repeat → rest l ≡ words.now → MessageRead l result }
-    {
-        let Some((byte, count)) = two_words(words) else {
-            return Err(Fault::BytesForm);
-        };
-        let byte = read_byte(heap, byte)?;
-        Ok(Message::Repeated(byte, read_number(heap, count)?))
-    }
-
-    // The words after `random`.
-    fn read_random(heap: Global, words: &[u8]) -> Result<Message, Fault>
-        ensures { (l : List ℕ) → first l ≡ random → rest l ≡ words.now → MessageRead l result }
-    {
-        let Some((seed, count)) = two_words(words) else {
-            return Err(Fault::BytesForm);
-        };
-        let seed = read_number(heap, seed)?;
-        Ok(Message::Random(seed, read_number(heap, count)?))
     }
 
     // SHA-256 of the bytes. Those that are not given one by one are hashed from a small buffer, however many they are.
@@ -70,8 +63,8 @@ impl Message {
     {
         match self {
             Message::Given(bytes) => sha256(bytes.as_slice()),
-            Message::Repeated(byte, count) => repeated_digest(*byte, *count),
-            Message::Random(seed, count) => random_digest(*seed, *count),
+            Message::Repeated(byte, count) => digest_of_next(Repeated { byte: *byte }, *count),
+            Message::Random(seed, count) => digest_of_next(Generator::new(*seed), *count),
         }
     }
 
@@ -109,32 +102,21 @@ fn random_bytes(heap: Global, seed: u64, count: u64) -> Result<Vec<u8>, AllocErr
     Ok(bytes)
 }
 
-// How many bytes of a repeated byte, or of the generator, are hashed at a time.
+// How many bytes of a source are hashed at a time.
 const BUFFER: usize = 4096;
 
-fn repeated_digest(byte: u8, count: u64) -> Digest
-    ensures { result ≡ digest_of (replicate count byte) }
+// SHA-256 of a source's next bytes, so many of them.
+fn digest_of_next<S: Source>(mut source: S, count: u64) -> Digest
+    ensures { result ≡ digest_of (S.next_bytes source count) }
 {
-    let buffer = [byte; BUFFER];
-    let mut hasher = Hasher::new();
-    for _turn in 0..count / BUFFER as u64 {
-        hasher.update(&buffer);
-    }
-    hasher.update(&buffer[0..(count % BUFFER as u64) as usize]);
-    hasher.finish()
-}
-
-fn random_digest(seed: u64, count: u64) -> Digest
-    ensures { result ≡ digest_of (generated seed count) }
-{
-    let mut generator = Generator::new(seed);
     let mut buffer = [0; BUFFER];
     let mut hasher = Hasher::new();
     for _turn in 0..count / BUFFER as u64 {
-        generator.fill(&mut buffer);
+        source.fill(&mut buffer);
         hasher.update(&buffer);
     }
-    generator.fill(&mut buffer);
-    hasher.update(&buffer[0..(count % BUFFER as u64) as usize]);
+    let last = &mut buffer[0..(count % BUFFER as u64) as usize];
+    source.fill(last);
+    hasher.update(last);
     hasher.finish()
 }

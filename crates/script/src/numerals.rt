@@ -1,11 +1,20 @@
 // Bytes in hexadecimal, and numbers in decimal.
-ghost use Rattle.std.specs.Prelude.{◌≡◌, ◌<◌, length, IfSome};
+ghost use Rattle.std.specs.Prelude.{◌≡◌, ℕ, ◌<◌, List, length, IfSome, Result};
+ghost use Rattle.script.specs.declared.fault.Fault.{Fault};
 ghost use Rattle.script.specs.Numbers.{hex_value};
-ghost use Rattle.script.specs.Readings.{DigitRead, HexRead, ByteRead, NumberValue, NumberRead};
+ghost use Rattle.script.specs.Readings.{DigitRead, HexRead, ByteValue, ByteRead, NumberValue, NumberRead};
 
 use crate::fault::Fault;
 use crate::quote::quoted;
 use std::alloc::Global;
+
+// What a word may be read as.
+pub trait FromWord: Sized + Drop {
+    ghost Reads: { List ℕ → Result Self Fault → Type 0 };
+
+    fn from_word(heap: Global, word: &[u8]) -> Result<Self, Fault>
+        ensures { Reads word.now result };
+}
 
 // No seed and no count is larger.
 const MOST_NUMBER: u64 = 1_073_741_824;
@@ -15,66 +24,61 @@ fn digit_value(c: u8) -> Option<u8>
     ensures value { result ≡ hex_value c }
     ensures small { IfSome result (λ d. d < 16) }
 {
-    match c {
-        b'0'..=b'9' => Some(c - b'0'),
-        b'a'..=b'f' => Some(c - b'a' + 10),
-        b'A'..=b'F' => Some(c - b'A' + 10),
-        _ => None,
-    }
+    let digit = (c as char).to_digit(16)?;
+    Some(digit as u8)
 }
 
-// The digit at index i of a word.
-fn digit_at(heap: Global, word: &[u8], i: usize) -> Result<u8, Fault>
-    requires { i < length word.now }
-    ensures { DigitRead word.now i result }
+// The number that a digit at this place of a word stands for; places are counted from 1.
+fn read_digit(heap: Global, digit: u8, place: usize) -> Result<u8, Fault>
+    ensures { DigitRead digit place result }
 {
-    match digit_value(word[i]) {
-        Some(digit) => Ok(digit),
-        None => Err(Fault::NoHexDigit(quoted(heap, &word[i..i + 1])?, i + 1)),
-    }
+    digit_value(digit).try_ok_or_else(|| Ok(Fault::NoHexDigit(quoted(heap, &[digit])?, place)))
 }
 
 // The bytes that a word spells, two digits each.
 pub fn read_hex(heap: Global, word: &[u8]) -> Result<Vec<u8>, Fault>
     ensures { HexRead word.now result }
 {
-    let mut bytes = Vec::with_capacity(heap, word.len() / 2)?;
-    for i in 0..word.len() / 2 {
-        let high = digit_at(heap, word, 2 * i)?;
-        let low = digit_at(heap, word, 2 * i + 1)?;
+    let (pairs, last) = word.as_chunks::<2>();
+    let mut bytes = Vec::with_capacity(heap, pairs.len())?;
+    for (i, [high, low]) in pairs.iter().enumerate() {
+        let high = read_digit(heap, *high, 2 * i + 1)?;
+        let low = read_digit(heap, *low, 2 * i + 2)?;
         bytes.push(high * 16 + low)?;
     }
-    if word.len() % 2 == 1 {
-        digit_at(heap, word, word.len() - 1)?;
+    if let Some(digit) = last.first() {
+        read_digit(heap, *digit, word.len())?;
         return Err(Fault::OddDigits(word.len()));
     }
     Ok(bytes)
 }
 
 // The byte that two digits spell.
-pub fn read_byte(heap: Global, word: &[u8]) -> Result<u8, Fault>
-    ensures { ByteRead word.now result }
+fn byte_value(word: &[u8]) -> Option<u8>
+    ensures { ByteValue word.now result }
 {
-    if word.len() == 2 {
-        if let Some(high) = digit_value(word[0]) {
-            if let Some(low) = digit_value(word[1]) {
-                return Ok(high * 16 + low);
-            }
-        }
+    let [high, low] = word else {
+        return None;
+    };
+    Some(digit_value(*high)? * 16 + digit_value(*low)?)
+}
+
+impl FromWord for u8 {
+    ghost Reads = { ByteRead };
+
+    fn from_word(heap: Global, word: &[u8]) -> Result<u8, Fault> {
+        byte_value(word).try_ok_or_else(|| Ok(Fault::NoByte(quoted(heap, word)?)))
     }
-    Err(Fault::NoByte(quoted(heap, word)?))
 }
 
 // The number that decimal digits spell, where it is one and not too large.
 fn number_value(word: &[u8]) -> Option<u64>
     ensures { NumberValue word.now result }
 {
-    let mut number = 0u64;
+    let mut number = 0;
     for c in word {
-        if *c < b'0' || *c > b'9' {
-            return None;
-        }
-        number = number * 10 + (*c - b'0') as u64;
+        let digit = (*c as char).to_digit(10)?;
+        number = number * 10 + u64::from(digit);
         if number > MOST_NUMBER {
             return None;
         }
@@ -83,11 +87,10 @@ fn number_value(word: &[u8]) -> Option<u64>
 }
 
 // A seed or a count.
-pub fn read_number(heap: Global, word: &[u8]) -> Result<u64, Fault>
-    ensures { NumberRead word.now result }
-{
-    match number_value(word) {
-        Some(number) => Ok(number),
-        None => Err(Fault::NoNumber(quoted(heap, word)?)),
+impl FromWord for u64 {
+    ghost Reads = { NumberRead };
+
+    fn from_word(heap: Global, word: &[u8]) -> Result<u64, Fault> {
+        number_value(word).try_ok_or_else(|| Ok(Fault::NoNumber(quoted(heap, word)?)))
     }
 }

@@ -1,9 +1,9 @@
 // A word of the script as an answer shows it.
-ghost use Rattle.std.specs.Prelude.{◌≡◌, ◌++◌, IfOk, string_bytes, OnOk};
-ghost use Rattle.script.specs.Quotes.{plain, escaped, shown_byte, shown_bytes, fronted, quotation};
+ghost use Rattle.std.specs.Prelude.{◌≡◌, IfOk, string_bytes, Some};
+ghost use Rattle.script.specs.Quotes.{plain, shown_byte, shown_bytes, quotation};
 
-use digest::hex_digit;
 use std::alloc::{AllocError, Global};
+use std::fmt;
 
 // Of a longer word only so many bytes are shown.
 const MOST_SHOWN: usize = 32;
@@ -12,57 +12,59 @@ const MOST_SHOWN: usize = 32;
 fn is_plain(b: u8) -> bool
     ensures { result ≡ plain b }
 {
-    b >= 32 && b < 127 && b != b'\'' && b != b'\\'
+    matches!(b, b' '..=b'~') && b != b'\'' && b != b'\\'
 }
 
-// \x and the byte's two hexadecimal digits.
-fn push_escaped(text: &mut String, b: u8) -> Result<(), AllocError>
-    ensures { OnOk result (string_bytes text.new ≡ string_bytes text.old ++ escaped b) }
-{
-    text.push_str("\\x")?;
-    text.push(hex_digit(b / 16) as char)?;
-    text.push(hex_digit(b) as char)?;
-    Ok(())
-}
+// A byte as it is shown: itself, or \x and its two hexadecimal digits.
+#[derive(Clone, Copy)]
+struct ShownByte(u8);
 
-// One byte as it is shown.
-fn push_byte(text: &mut String, b: u8) -> Result<(), AllocError>
-    ensures { OnOk result (string_bytes text.new ≡ string_bytes text.old ++ shown_byte b) }
-{
-    if is_plain(b) {
-        text.push(b as char)
-    } else {
-        push_escaped(text, b)
+impl fmt::Display for ShownByte {
+    ghost output = { λ s. Some (shown_byte s.0) };
+
+    fn fmt<W: fmt::Write>(&self, f: &mut fmt::Formatter<W>) -> fmt::Result {
+        if is_plain(self.0) {
+            write!(f, "{}", self.0 as char)
+        } else {
+            write!(f, "\\x{:02x}", self.0)
+        }
     }
 }
 
-fn push_bytes(text: &mut String, bytes: &[u8]) -> Result<(), AllocError>
-    ensures { OnOk result (string_bytes text.new ≡ string_bytes text.old ++ shown_bytes bytes.now) }
-{
-    for b in bytes {
-        push_byte(text, *b)?;
+// Bytes as they are shown, one after the other.
+#[derive(Clone, Copy)]
+struct Shown<'a>(&'a [u8]);
+
+impl fmt::Display for Shown<'_> {
+    ghost output = { λ s. Some (shown_bytes s.0.now) };
+
+    fn fmt<W: fmt::Write>(&self, f: &mut fmt::Formatter<W>) -> fmt::Result {
+        for b in self.0 {
+            write!(f, "{}", ShownByte(*b))?;
+        }
+        Ok(())
     }
-    Ok(())
 }
 
-// A word's front, and two dots where that is not all of it.
-fn push_front(text: &mut String, word: &[u8]) -> Result<(), AllocError>
-    ensures { OnOk result (string_bytes text.new ≡ string_bytes text.old ++ fronted word.now) }
-{
-    if word.len() > MOST_SHOWN {
-        push_bytes(text, &word[0..MOST_SHOWN])?;
-        text.push_str("..")?;
-        return Ok(());
+// A word between apostrophes; where it is longer, its front and two dots.
+#[derive(Clone, Copy)]
+struct Quotation<'a>(&'a [u8]);
+
+impl fmt::Display for Quotation<'_> {
+    ghost output = { λ q. Some (quotation q.0.now) };
+
+    fn fmt<W: fmt::Write>(&self, f: &mut fmt::Formatter<W>) -> fmt::Result {
+        if self.0.len() > MOST_SHOWN {
+            write!(f, "'{}..'", Shown(&self.0[..MOST_SHOWN]))
+        } else {
+            write!(f, "'{}'", Shown(self.0))
+        }
     }
-    push_bytes(text, word)
 }
 
-// The word between apostrophes.
+// The text of a word between apostrophes.
 pub fn quoted(heap: Global, word: &[u8]) -> Result<String, AllocError>
     ensures { IfOk result (λ t. string_bytes t ≡ quotation word.now) }
 {
-    let mut text = String::from_str(heap, "'")?;
-    push_front(&mut text, word)?;
-    text.push_str("'")?;
-    Ok(text)
+    Quotation(word).to_string(heap)
 }

@@ -3,20 +3,8 @@ use Rattle.std.proofs.Output.{has_written_of_eq}
 use Rattle.script.specs.Faults.{fault_text}
 use Rattle.script.proofs.fault.FaultDisplay.fmt.Goals as goal
 
-pub returns-in-TooLong-clause-writes : goal.returns-in-TooLong-clause-writes
-returns-in-TooLong-clause-writes g c = λ p ok. has_written_of_eq g.W.Write.write_str_gives _ _ _ _ (ap fault_text (sym c.in-TooLong.is)) (c.write.ensures.writes p ok)
-
-pub returns-in-BytesForm-clause-writes : goal.returns-in-BytesForm-clause-writes
-returns-in-BytesForm-clause-writes g c = λ p ok. has_written_of_eq g.W.Write.write_str_gives _ _ _ _ (ap fault_text (sym c.in-BytesForm.is)) (c.write-in-BytesForm.ensures.writes p ok)
-
 pub returns-in-NoHexDigit-clause-writes : goal.returns-in-NoHexDigit-clause-writes
 returns-in-NoHexDigit-clause-writes g c = λ p ok. has_written_of_eq g.W.Write.write_str_gives _ _ _ _ (ap fault_text (sym c.in-NoHexDigit.is)) (c.write-in-NoHexDigit.ensures.writes p ok)
 
-pub returns-in-OddDigits-clause-writes : goal.returns-in-OddDigits-clause-writes
-returns-in-OddDigits-clause-writes g c = λ p ok. has_written_of_eq g.W.Write.write_str_gives _ _ _ _ (ap fault_text (sym c.in-OddDigits.is)) (c.write-in-OddDigits.ensures.writes p ok)
-
 pub returns-in-NoByte-clause-writes : goal.returns-in-NoByte-clause-writes
 returns-in-NoByte-clause-writes g c = λ p ok. has_written_of_eq g.W.Write.write_str_gives _ _ _ _ (ap fault_text (sym c.in-NoByte.is)) (c.write-in-NoByte.ensures.writes p ok)
-
-pub returns-in-NoNumber-clause-writes : goal.returns-in-NoNumber-clause-writes
-returns-in-NoNumber-clause-writes g c = λ p ok. has_written_of_eq g.W.Write.write_str_gives _ _ _ _ (ap fault_text (sym c.in-NoNumber.is)) (c.write-in-NoNumber.ensures.writes p ok)
