@@ -26,7 +26,7 @@ pub fn check_length(length: u64) -> Result<(), Refusal>
 pub struct Pieces<'a> {
     // what follows the pieces so far
     rest: &'a [u8],
-    ghost short: { length rest.now ≤ most_in_file },
+    pub ghost short: { length rest.now ≤ most_in_file },
 }
 
 impl<'a> Pieces<'a> {
