@@ -15,6 +15,7 @@ pub fn next_number(number: u32, byte: u8) -> u32
 }
 
 // The number after these bytes, from 0 on. Only the last 32 of them are read: the others have gone from it.
+#[tactic(auto, using(crate::proofs::Window::last_32, crate::proofs::Window::last_bytes))]
 pub fn number_after(bytes: &[u8]) -> u32
     ensures number { result ≡ number_after_all bytes.now }
     ensures window { (front end : List ℕ) → bytes.now ≡ front ++ end → 32 ≤ length end → result ≡ number_after_all end }
