@@ -9,7 +9,7 @@ use Rattle.std.proofs.lemmas.Bool.{cases_lt}
 use Rattle.digest.proofs.Digits.{take_two}
 use Rattle.std.specs.Simd.{first_chunks}
 use Rattle.script.specs.declared.fault.Fault.{Fault}
-use Rattle.script.specs.declared.fault.Fault.TheVariants.{TooLong, NoMemory, UnknownStep, WrongForm, NoHexDigit, OddDigits, NoByte, NoNumber}
+use Rattle.script.specs.declared.fault.Fault.TheVariants.{NoMemory, NoHexDigit}
 use Rattle.script.specs.Numbers.{hex_value, HexDigits, paired, decimal_value}
 use Rattle.script.specs.Readings.{NoDigit, HexBlamed, HexRead, ByteRead}
 
@@ -48,14 +48,9 @@ digits_at w i j e h = subst (HexDigits w) e h
 
 -- the digit that is none is the first one
 blamed_at : (w : List ℕ) (i : ℕ) (f : Fault) → i < length w → HexDigits w i → NoDigit (get_or w i 0) (i + 1) f → HexBlamed w f
-blamed_at w i TooLong h k n = n
 blamed_at w i NoMemory h k n = tt
-blamed_at w i (UnknownStep t) h k n = n
-blamed_at w i (WrongForm forms) h k n = n
 blamed_at w i (NoHexDigit t place) h k n = (i, h, k, n)
-blamed_at w i (OddDigits m) h k n = absurd n
-blamed_at w i (NoByte t) h k n = n
-blamed_at w i (NoNumber t) h k n = n
+blamed_at w i other h k n = absurd n
 
 -- where a digit's fault is passed on
 pub hex_exit : (w : List ℕ) (i c place : ℕ) (f : Fault) (r : Result (Vec ℕ Global) Fault) → i < length w → HexDigits w i → c ≡ get_or w i 0 → place ≡ i + 1 → NoDigit c place f → IsErrAnd r (λ y. y ≡ f) → HexRead w r
