@@ -4,7 +4,7 @@ use Rattle.std.proofs.Common.{◌≡◌, ℕ, ◌<◌, List, length, IsErrAnd, E
 use Rattle.std.proofs.lemmas.Result.{err_from_is_err_and}
 use Rattle.script.specs.declared.forms.Forms.{Forms}
 use Rattle.script.specs.declared.fault.Fault.{Fault}
-use Rattle.script.specs.declared.fault.Fault.TheVariants.{TooLong, NoMemory, UnknownStep, WrongForm, NoHexDigit, OddDigits, NoByte, NoNumber}
+use Rattle.script.specs.declared.fault.Fault.TheVariants.{TooLong}
 use Rattle.script.specs.declared.message.Message.{Message}
 use Rattle.script.specs.Lines.{first, rest}
 use Rattle.script.specs.Readings.{ByteRead, NumberRead}
@@ -13,13 +13,7 @@ use Rattle.script.specs.Messages.{repeat, TwoRead, MessageBlamed, MessageRead}
 -- what is wrong with the byte and the count is wrong with the words of the step
 repeat_wrong : (forms : Forms) (l : List ℕ) (f : Fault) → 0 < length (first l) → first l ≡ repeat → TwoRead ByteRead NumberRead forms (rest l) (Err f) → MessageBlamed forms l f
 repeat_wrong forms l TooLong some named h = search rules
-repeat_wrong forms l NoMemory some named h = search rules
-repeat_wrong forms l (UnknownStep t) some named h = search rules
-repeat_wrong forms l (WrongForm taken) some named h = search rules
-repeat_wrong forms l (NoHexDigit t place) some named h = search rules
-repeat_wrong forms l (OddDigits n) some named h = search rules
-repeat_wrong forms l (NoByte t) some named h = search rules
-repeat_wrong forms l (NoNumber t) some named h = search rules
+repeat_wrong forms l other some named h = search rules
 
 -- and is passed on
 pub repeat_exits : (forms : Forms) (l behind : List ℕ) (f : Fault) (r : Result Message Fault) → IsErrAnd r (λ y. y ≡ f) → 0 < length (first l) → first l ≡ repeat → behind ≡ rest l → TwoRead ByteRead NumberRead forms behind (Err f)

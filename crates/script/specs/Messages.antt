@@ -2,7 +2,7 @@
 -- Assumes nothing.
 use Rattle.std.specs.Prelude.{◌≡◌, ℕ, ◌<◌, ◌⊎◌, List, [], length, replicate, Ok, Err, vec_items, codes, Result}
 use Rattle.script.specs.declared.fault.Fault.{Fault}
-use Rattle.script.specs.declared.fault.Fault.TheVariants.{TooLong, NoMemory, UnknownStep, WrongForm, NoHexDigit, OddDigits, NoByte, NoNumber}
+use Rattle.script.specs.declared.fault.Fault.TheVariants.{TooLong, UnknownStep, WrongForm}
 use Rattle.script.specs.declared.forms.Forms.{Forms}
 use Rattle.script.specs.declared.forms.Forms.TheVariants.{Every}
 use Rattle.script.specs.declared.message.Message.{Message}
@@ -74,13 +74,9 @@ WordsBlamed forms l f =
 -- why the words after a step's name stand for no bytes
 abbrev pub MessageBlamed : Forms → List ℕ → Fault → Type 0
 MessageBlamed forms l TooLong = ⊥
-MessageBlamed forms l NoMemory = WordsBlamed forms l NoMemory
 MessageBlamed forms l (UnknownStep t) = ⊥
 MessageBlamed forms l (WrongForm taken) = (taken ≡ forms) × NoForm forms l
-MessageBlamed forms l (NoHexDigit t place) = WordsBlamed forms l (NoHexDigit t place)
-MessageBlamed forms l (OddDigits n) = WordsBlamed forms l (OddDigits n)
-MessageBlamed forms l (NoByte t) = WordsBlamed forms l (NoByte t)
-MessageBlamed forms l (NoNumber t) = WordsBlamed forms l (NoNumber t)
+MessageBlamed forms l other = WordsBlamed forms l other
 
 -- what the words after a step's name stand for: no bytes, HEX, repeat BYTE COUNT, or random SEED COUNT where that is taken
 abbrev pub MessageRead : Forms → List ℕ → Result Message Fault → Type 0

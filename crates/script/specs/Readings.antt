@@ -4,20 +4,15 @@
 use Rattle.std.specs.Prelude.{◌≡◌, ℕ, ◌+◌, ◌%◌, ◌<◌, ◌≤◌, List, [], ◌∷◌, length, Some, None, Ok, Err, vec_items, string_bytes, Option, Result, Vec, slice_index}
 use Rattle.std.specs.declared.alloc.Global.{Global}
 use Rattle.script.specs.declared.fault.Fault.{Fault}
-use Rattle.script.specs.declared.fault.Fault.TheVariants.{TooLong, NoMemory, UnknownStep, WrongForm, NoHexDigit, OddDigits, NoByte, NoNumber}
+use Rattle.script.specs.declared.fault.Fault.TheVariants.{NoMemory, NoHexDigit, OddDigits, NoByte, NoNumber}
 use Rattle.script.specs.Numbers.{hex_value, HexDigits, paired, DecimalDigits, decimal_value, most_number}
 use Rattle.script.specs.Quotes.{quotation}
 
 -- c, at this place of a word, is not a hexadecimal digit; places are counted from 1
 abbrev pub NoDigit : ℕ → ℕ → Fault → Type 0
-NoDigit c place TooLong = ⊥
 NoDigit c place NoMemory = hex_value c ≡ None
-NoDigit c place (UnknownStep t) = ⊥
-NoDigit c place (WrongForm forms) = ⊥
 NoDigit c place (NoHexDigit t at) = (at ≡ place) × (hex_value c ≡ None) × (string_bytes t ≡ quotation (c ∷ []))
-NoDigit c place (OddDigits n) = ⊥
-NoDigit c place (NoByte t) = ⊥
-NoDigit c place (NoNumber t) = ⊥
+NoDigit c place other = ⊥
 
 -- the number that c, at this place, stands for as a digit
 abbrev pub DigitRead : ℕ → ℕ → Result ℕ Fault → Type 0
@@ -26,14 +21,10 @@ DigitRead c place (Err f) = NoDigit c place f
 
 -- a word is not the hexadecimal form of bytes: its first byte that is no digit, or else the odd number of its digits
 abbrev pub HexBlamed : List ℕ → Fault → Type 0
-HexBlamed w TooLong = ⊥
 HexBlamed w NoMemory = Unit {0}
-HexBlamed w (UnknownStep t) = ⊥
-HexBlamed w (WrongForm forms) = ⊥
 HexBlamed w (NoHexDigit t place) = (i : ℕ) × (i < length w) × HexDigits w i × NoDigit (slice_index w i) (i + 1) (NoHexDigit t place)
 HexBlamed w (OddDigits n) = HexDigits w (length w) × (length w % 2 ≡ 1) × (n ≡ length w)
-HexBlamed w (NoByte t) = ⊥
-HexBlamed w (NoNumber t) = ⊥
+HexBlamed w other = ⊥
 
 -- the bytes whose hexadecimal form a word is
 abbrev pub HexRead : List ℕ → Result (Vec ℕ Global) Fault → Type 0
@@ -47,14 +38,9 @@ ByteValue w (Some b) = (length w ≡ 2) × HexDigits w 2 × (paired w ≡ b ∷ 
 
 -- a word is not a byte of two hexadecimal digits
 abbrev pub ByteBlamed : List ℕ → Fault → Type 0
-ByteBlamed w TooLong = ⊥
 ByteBlamed w NoMemory = ByteValue w None
-ByteBlamed w (UnknownStep t) = ⊥
-ByteBlamed w (WrongForm forms) = ⊥
-ByteBlamed w (NoHexDigit t place) = ⊥
-ByteBlamed w (OddDigits n) = ⊥
 ByteBlamed w (NoByte t) = ByteValue w None × (string_bytes t ≡ quotation w)
-ByteBlamed w (NoNumber t) = ⊥
+ByteBlamed w other = ⊥
 
 -- the byte that two hexadecimal digits are
 abbrev pub ByteRead : List ℕ → Result ℕ Fault → Type 0
@@ -68,14 +54,9 @@ NumberValue w (Some n) = DecimalDigits w (length w) × (n ≡ decimal_value w) �
 
 -- a word is not a number, or too large a one
 abbrev pub NumberBlamed : List ℕ → Fault → Type 0
-NumberBlamed w TooLong = ⊥
 NumberBlamed w NoMemory = NumberValue w None
-NumberBlamed w (UnknownStep t) = ⊥
-NumberBlamed w (WrongForm forms) = ⊥
-NumberBlamed w (NoHexDigit t place) = ⊥
-NumberBlamed w (OddDigits n) = ⊥
-NumberBlamed w (NoByte t) = ⊥
 NumberBlamed w (NoNumber t) = NumberValue w None × (string_bytes t ≡ quotation w)
+NumberBlamed w other = ⊥
 
 abbrev pub NumberRead : List ℕ → Result ℕ Fault → Type 0
 NumberRead w (Ok n) = NumberValue w (Some n)
