@@ -1,12 +1,11 @@
 -- Numbers that are read digit by digit.
 -- Assumes nothing.
-use Rattle.std.proofs.Common.{◌≡◌, ℕ, zero, suc, ◌+◌, ◌-◌, ◌*◌, ◌/◌, ◌%◌, ◌<◌, ◌≤◌, List, [], ◌∷◌, ◌++◌, length, get_or, take, drop, is_some, IsErrAnd, Some, Ok, fold, Option, Result, Vec, unwrap_or, sym, refl, ap, ◌∙◌, subst, ⊎_elim, not-suc-le-zero, arith, take-append-drop, length-take-le, take_all}
+use Rattle.std.proofs.Common.{◌≡◌, ℕ, zero, suc, ◌+◌, ◌-◌, ◌*◌, ◌/◌, ◌%◌, ◌<◌, ◌≤◌, List, [], ◌∷◌, ◌++◌, length, get_or, take, drop, is_some, IsErrAnd, Some, Ok, fold, Option, Result, Vec, unwrap_or, sym, refl, ap, ◌∙◌, subst, ⊎_elim, not-suc-le-zero, arith, take-append-drop, length-take-le, take_all, append_assoc}
 use Rattle.std.specs.declared.alloc.Global.{Global}
-use Rattle.std.proofs.lemmas.List.{get_or-drop}
+use Rattle.std.proofs.lemmas.List.{get_or-drop, take_more}
 use Rattle.std.proofs.lemmas.Result.{err_from_is_err_and}
 use Rattle.std.proofs.lemmas.List.Sums.{fold-append, fold_more}
 use Rattle.std.proofs.lemmas.Bool.{cases_lt}
-use Rattle.digest.proofs.Digits.{take_two}
 use Rattle.std.specs.Simd.{first_chunks}
 use Rattle.script.specs.declared.fault.Fault.{Fault}
 use Rattle.script.specs.declared.fault.Fault.TheVariants.{NoMemory, NoHexDigit}
@@ -64,6 +63,13 @@ paired-push [] c d h = refl
 paired-push (x ∷ []) c d h = absurd (omega arith)
 paired-push (x ∷ (y ∷ xs)) c d h = ap (λ (l : List ℕ). (unwrap_or (hex_value x) 0 * 16 + unwrap_or (hex_value y) 0) ∷ l) (paired-push xs c d (omega arith))
 
+take_pair : (w : List ℕ) (i : ℕ) → 2 * i + 1 < length w → take (2 * (i + 1)) w ≡ take (2 * i) w ++ (get_or w (2 * i) 0 ∷ (get_or w (2 * i + 1) 0 ∷ []))
+take_pair w i h =
+    let n : 2 * (i + 1) ≡ 2 * i + 1 + 1 = omega arith in
+    let c = get_or w (2 * i) 0 in
+    let d = get_or w (2 * i + 1) 0 in
+    ap (λ (k : ℕ). take k w) n ∙ take_more w (2 * i + 1) 0 h ∙ ap (λ (l : List ℕ). l ++ (d ∷ [])) (take_more w (2 * i) 0 (omega arith)) ∙ append_assoc (take (2 * i) w) (c ∷ []) (d ∷ [])
+
 -- one byte more
 pub paired_more : (w : List ℕ) (i m n : ℕ) → 2 * i + 1 < length w → hex_value (get_or w (2 * i) 0) ≡ Some m → hex_value (get_or w (2 * i + 1) 0) ≡ Some n
     → paired (take (2 * (i + 1)) w) ≡ paired (take (2 * i) w) ++ ((m * 16 + n) ∷ [])
@@ -73,7 +79,7 @@ paired_more w i m n h p q =
     let even : length (take (2 * i) w) % 2 ≡ 0 = omega arith in
     let a = ap (λ (o : Option ℕ). unwrap_or o 0) p in
     let b = ap (λ (o : Option ℕ). unwrap_or o 0) q in
-    ap paired (take_two w i h) ∙ paired-push (take (2 * i) w) (get_or w (2 * i) 0) (get_or w (2 * i + 1) 0) even
+    ap paired (take_pair w i h) ∙ paired-push (take (2 * i) w) (get_or w (2 * i) 0) (get_or w (2 * i + 1) 0) even
     ∙ (λ j. paired (take (2 * i) w) ++ ((a j * 16 + b j) ∷ []))
 
 -- a word of two digits

@@ -29,7 +29,7 @@ fn read_two<A: FromWord, B: FromWord>(
     words: &[u8],
     forms: Forms,
 ) -> Result<(A, B), Fault>
-    ensures { TwoRead A.Reads B.Reads forms words.now result }
+    ensures { TwoRead A.reads B.reads forms words.now result }
 {
     let (one, two) = two_words(words).ok_or(Fault::WrongForm(forms))?;
     Ok((A::from_word(heap, one)?, B::from_word(heap, two)?))

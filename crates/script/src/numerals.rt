@@ -10,10 +10,10 @@ use std::alloc::Global;
 
 // What a word may be read as.
 pub trait FromWord: Sized + Drop {
-    ghost Reads: { List ℕ → Result Self Fault → Type 0 };
+    ghost reads: { List ℕ → Result Self Fault → Type 0 };
 
     fn from_word(heap: Global, word: &[u8]) -> Result<Self, Fault>
-        ensures { Reads word.now result };
+        ensures { reads word.now result };
 }
 
 // No seed and no count is larger.
@@ -64,7 +64,7 @@ fn byte_value(word: &[u8]) -> Option<u8>
 }
 
 impl FromWord for u8 {
-    ghost Reads = { ByteRead };
+    ghost reads = { ByteRead };
 
     fn from_word(heap: Global, word: &[u8]) -> Result<u8, Fault> {
         byte_value(word).try_ok_or_else(|| Ok(Fault::NoByte(quoted(heap, word)?)))
@@ -88,7 +88,7 @@ fn number_value(word: &[u8]) -> Option<u64>
 
 // A seed or a count.
 impl FromWord for u64 {
-    ghost Reads = { NumberRead };
+    ghost reads = { NumberRead };
 
     fn from_word(heap: Global, word: &[u8]) -> Result<u64, Fault> {
         number_value(word).try_ok_or_else(|| Ok(Fault::NoNumber(quoted(heap, word)?)))
