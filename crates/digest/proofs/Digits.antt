@@ -1,11 +1,11 @@
 -- The hexadecimal digits of bytes, two by two.
 -- Assumes nothing.
-use Rattle.std.proofs.Common.{◌≡◌, ℕ, zero, suc, ◌+◌, ◌*◌, ◌/◌, ◌%◌, ◌<◌, List, [], ◌∷◌, ◌++◌, length, get_or, take, drop, IsAscii, refl, ap, ◌∙◌, append_assoc, not-suc-le-zero, arith, length-drop}
+use Rattle.std.proofs.Common.{◌≡◌, ℕ, zero, suc, ◌+◌, ◌*◌, ◌/◌, ◌%◌, ◌<◌, List, [], ◌∷◌, ◌++◌, length, get_or, take, drop, IsAscii, refl, ap, ◌∙◌, not-suc-le-zero, arith, length-drop}
 use Rattle.std.specs.List.{flat_map}
 use Rattle.std.specs.Simd.{first_chunks}
 use Rattle.std.proofs.lemmas.Str.Ascii.{IsAscii-nil, IsAscii-cons}
 use Rattle.std.proofs.lemmas.Bool.Decides.{nat_tests}
-use Rattle.std.proofs.lemmas.List.{take_more, take-append-drop}
+use Rattle.std.proofs.lemmas.List.{take-append-drop}
 use Rattle.std.specs.Prelude.{Result, IsErr}
 use Rattle.std.proofs.lemmas.Result.{IfOk-from_err}
 use Rattle.digest.specs.declared.hex.NotADigest.{NotADigest}
@@ -81,16 +81,6 @@ same_digits (x ∷ xs) (y ∷ ys) l fx fy e =
     let first : x ≡ y = omega arith in
     let rest = same_digits xs ys (omega arith) (λ i below. fx (suc i) (omega arith)) (λ i. fy (suc i)) (ap (drop 2) e) in
     λ i. first i ∷ rest i
-
--- two elements more of a list
-pub take_two : (text : List ℕ) (i : ℕ) → 2 * i + 1 < length text → take (2 * (i + 1)) text ≡ take (2 * i) text ++ (get_or text (2 * i) 0 ∷ (get_or text (2 * i + 1) 0 ∷ []))
-take_two text i h =
-    let n : 2 * (i + 1) ≡ 2 * i + 1 + 1 = omega arith in
-    let first : 2 * i < length text = omega arith in
-    ap (λ (j : ℕ). take j text) n
-    ∙ take_more text (2 * i + 1) 0 h
-    ∙ ap (λ (l : List ℕ). l ++ (get_or text (2 * i + 1) 0 ∷ [])) (take_more text (2 * i) 0 first)
-    ∙ append_assoc (take (2 * i) text) (get_or text (2 * i) 0 ∷ []) (get_or text (2 * i + 1) 0 ∷ [])
 
 -- a refusal is right where no digest has these digits
 pub refused : (text : List ℕ) (r : Result Digest NotADigest) → IsErr r → ((d : Digest) → Whole d → text ≡ hex d.bytes → ⊥) → Reads text r

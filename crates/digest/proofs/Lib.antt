@@ -2,7 +2,7 @@ mod Absorbing
 mod BigEndian
 mod Blocks
 mod Chunks
-pub mod Digits
+mod Digits
 mod Filling
 pub mod Order
 mod Padding

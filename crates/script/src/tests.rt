@@ -1,4 +1,4 @@
-// What no program runs so far: bytes in each of their forms, and words.
+// What no script runs: bytes from a seed, bytes that are all in memory, and words by themselves.
 use crate::{Forms, Message, is_word, next_word, quoted};
 use digest::sha256;
 use std::test::Fail;
