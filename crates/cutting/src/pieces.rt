@@ -26,6 +26,7 @@ pub fn check_length(length: u64) -> Result<(), Refusal>
 pub struct Pieces<'a> {
     // what follows the pieces so far
     rest: &'a [u8],
+    // no part of a file is longer than a file may be
     pub ghost short: { length rest.now ≤ most_in_file },
 }
 
