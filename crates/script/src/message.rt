@@ -7,7 +7,7 @@ ghost use Rattle.script.specs.Messages.{bytes_of, TwoRead, MessageRead};
 use crate::fault::Fault;
 use crate::forms::Forms;
 use crate::generator::Generator;
-use crate::numerals::{FromWord, read_hex};
+use crate::numerals::FromWord;
 use crate::scan::{is_word, next_word, two_words};
 use crate::source::{Repeated, Source};
 use digest::{Digest, Hasher, sha256};
@@ -54,7 +54,7 @@ impl Message {
         if next_word(others).is_some() {
             return Err(Fault::WrongForm(forms));
         }
-        Ok(Message::Given(read_hex(heap, word)?))
+        Ok(Message::Given(Vec::from_word(heap, word)?))
     }
 
     // SHA-256 of the bytes. Those that are not given one by one are hashed from a small buffer, however many they are.

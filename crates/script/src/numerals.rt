@@ -36,21 +36,23 @@ fn read_digit(heap: Global, digit: u8, place: usize) -> Result<u8, Fault>
 }
 
 // The bytes that a word spells, two digits each.
-pub fn read_hex(heap: Global, word: &[u8]) -> Result<Vec<u8>, Fault>
-    ensures { HexRead word.now result }
-{
-    let (pairs, last) = word.as_chunks::<2>();
-    let mut bytes = Vec::with_capacity(heap, pairs.len())?;
-    for (i, [high, low]) in pairs.iter().enumerate() {
-        let high = read_digit(heap, *high, 2 * i + 1)?;
-        let low = read_digit(heap, *low, 2 * i + 2)?;
-        bytes.push(high * 16 + low)?;
+impl FromWord for Vec<u8> {
+    ghost reads = { HexRead };
+
+    fn from_word(heap: Global, word: &[u8]) -> Result<Vec<u8>, Fault> {
+        let (pairs, last) = word.as_chunks::<2>();
+        let mut bytes = Vec::with_capacity(heap, pairs.len())?;
+        for (i, [high, low]) in pairs.iter().enumerate() {
+            let high = read_digit(heap, *high, 2 * i + 1)?;
+            let low = read_digit(heap, *low, 2 * i + 2)?;
+            bytes.push(high * 16 + low)?;
+        }
+        if let Some(digit) = last.first() {
+            read_digit(heap, *digit, word.len())?;
+            return Err(Fault::OddDigits(word.len()));
+        }
+        Ok(bytes)
     }
-    if let Some(digit) = last.first() {
-        read_digit(heap, *digit, word.len())?;
-        return Err(Fault::OddDigits(word.len()));
-    }
-    Ok(bytes)
 }
 
 // The byte that two digits spell.

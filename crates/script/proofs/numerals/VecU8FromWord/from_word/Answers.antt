@@ -2,7 +2,7 @@ use Rattle.std.proofs.Common.{ℕ, ◌+◌, ◌-◌, ◌*◌, List, get_or, leng
 use Rattle.std.proofs.lemmas.Slice.{pushed}
 use Rattle.script.specs.Numbers.{hex_value, paired}
 use Rattle.script.proofs.Reading.{digits_more, digits_at, pair_at, last_at, hex_exit, paired_more}
-use Rattle.script.proofs.numerals.read_hex.Goals as goal
+use Rattle.script.proofs.numerals.VecU8FromWord.from_word.Goals as goal
 
 pub loop-i-init : goal.loop-i-init
 unfolding paired
