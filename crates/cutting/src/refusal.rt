@@ -76,6 +76,7 @@ impl Refusal {
     }
 }
 
+// Two impls, since one for every error that turns into an AllocError would overlap with std's from a type to itself.
 impl From<AllocError> for Refusal {
     ghost from_gives = { λ _ r. r ≡ NoMemory };
 

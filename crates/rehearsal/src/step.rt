@@ -29,6 +29,7 @@ impl Step {
         Err(Fault::UnknownStep(quoted(heap, name)?))
     }
 
+    // A match, and no closure or dyn value, since the contract names what each step answers.
     pub fn play(self) -> Answer
         ensures { Plays self result }
     {

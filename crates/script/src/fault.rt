@@ -27,6 +27,7 @@ pub enum Fault {
     NoNumber(String),
 }
 
+// Two impls, since one for every error that turns into an AllocError would overlap with std's from a type to itself.
 impl From<AllocError> for Fault {
     ghost from_gives = { λ _ r. r ≡ NoMemory };
 
