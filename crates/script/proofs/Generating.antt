@@ -1,7 +1,12 @@
 -- Bytes of the generator, one after the other and many at a time.
 -- Assumes nothing.
 use Rattle.std.proofs.Common.{◌≡◌, ℕ, zero, suc, ◌+◌, ◌/◌, ◌^◌, List, [], ◌∷◌, ◌++◌, length, refl, ap, ◌∙◌, suc-add, zero-add}
-use Rattle.script.specs.Generators.{advance, advanced, generated}
+use Rattle.script.specs.Generators.{advance, generated}
+
+-- the number after n bytes
+unfoldable pub advanced : ℕ → ℕ → ℕ
+advanced x zero = x
+advanced x (suc n) = advanced (advance x) n
 
 -- the bytes after the first m follow from the number that is reached then
 pub generated_add : (x m n : ℕ) → generated x (m + n) ≡ generated x m ++ generated (advanced x m) n

@@ -6,11 +6,6 @@ use Rattle.std.specs.Prelude.{ℕ, zero, suc, ◌+◌, ◌*◌, ◌/◌, ◌%◌
 unfoldable pub advance : ℕ → ℕ
 advance x = (x * 6364136223846793005 + 1442695040888963407) % 2 ^ 64
 
--- the number after n bytes
-unfoldable pub advanced : ℕ → ℕ → ℕ
-advanced x zero = x
-advanced x (suc n) = advanced (advance x) n
-
 -- n bytes from a number on, each the highest 8 bits of the number after the one before
 unfoldable pub generated : ℕ → ℕ → List ℕ
 generated x zero = []

@@ -1,6 +1,6 @@
 use Rattle.std.proofs.Common.{◌≡◌, ℕ, ◌+◌, ◌/◌, ◌^◌, ◌<◌, [], ◌∷◌, ◌++◌, length, take, set, sym, refl, ap, ◌∙◌, add-one, arith, take_all, take-suc-set, length-set}
-use Rattle.script.specs.Generators.{advance, advanced, generated}
-use Rattle.script.proofs.Generating.{generated_add, generated_more, advanced_more}
+use Rattle.script.specs.Generators.{advance, generated}
+use Rattle.script.proofs.Generating.{advanced, generated_add, generated_more, advanced_more}
 use Rattle.script.proofs.generator.GeneratorSource.fill.Goals as goal
 
 pub loop-byte-init : goal.loop-byte-init

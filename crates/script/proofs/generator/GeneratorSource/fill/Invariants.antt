@@ -1,5 +1,6 @@
 use Rattle.std.proofs.Common.{◌≡◌, length, take}
-use Rattle.script.specs.Generators.{advanced, generated}
+use Rattle.script.specs.Generators.{generated}
+use Rattle.script.proofs.Generating.{advanced}
 use Rattle.script.proofs.generator.GeneratorSource.fill.Given as goal
 
 abbrev pub invariant-loop-byte : goal.invariant-loop-byte
