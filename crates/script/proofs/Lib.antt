@@ -1,5 +1,5 @@
-pub mod Blanks
-pub mod Generating
-pub mod Reading
-pub mod Shown
-pub mod Spelling
+mod Blanks
+mod Generating
+mod Reading
+mod Shown
+mod Spelling

@@ -111,6 +111,7 @@ fn digest_of_next<S: Source>(mut source: S, count: u64) -> Digest
 {
     let mut buffer = [0; BUFFER];
     let mut hasher = Hasher::new();
+    // a turn for each full buffer: there is nothing to go over but their number
     for _turn in 0..count / BUFFER as u64 {
         source.fill(&mut buffer);
         hasher.update(&buffer);
