@@ -12,8 +12,8 @@ const MOST_IN_PIECE: usize = 65_536;
 // And at least so many, unless the file ends with it.
 const LEAST_IN_PIECE: usize = 2_048;
 
-// So many bytes are looked at in a turn of the loop of `find_end_by_blocks`. With one byte a turn its speed hung on where in memory it was placed.
-const BLOCK: usize = 8;
+// So many bytes are looked at in a turn of the loop of `find_end_by_blocks` (docs/DECISIONS.md has the figures for other numbers).
+const BLOCK: usize = 4;
 
 // Looks for the end of a piece in its next bytes, before which the number is this. It has 2,048 bytes by then, and ends where the highest 13 bits of the
 // number are 0. Breaks with how many of these bytes are still in the piece, if fewer than all; else goes on with the number after all.
@@ -29,7 +29,7 @@ fn find_end(mut number: u32, bytes: &[u8]) -> ControlFlow<usize, u32>
     ControlFlow::Continue(number)
 }
 
-// The same, a block at a time. By a `for`, which has 0.97 of plain Rust's speed; `try_fold` over the blocks has 0.76.
+// The same, a block at a time.
 #[tactic(auto, using(crate::proofs::Further::last_found))]
 fn find_end_by_blocks(mut number: u32, bytes: &[u8]) -> ControlFlow<usize, u32>
     ensures { Finds number bytes.now result }
