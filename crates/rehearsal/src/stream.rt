@@ -2,7 +2,7 @@
 use crate::line::LineAnswer;
 use crate::pending::Pending;
 use std::io;
-use std::io::Read;
+use std::io::{BufRead, BufReader};
 
 // How much of the script is read at a time.
 const CHUNK: usize = 65_536;
@@ -28,16 +28,17 @@ fn play_part(rt: &impl Print, pending: &mut Pending, part: &[u8]) -> io::Result<
 // Plays the script on standard input, and writes the answers to standard output. A last line without a newline is a line, too.
 pub fn play(rt: &HostRuntime) -> io::Result<()> {
     let heap = rt.alloc();
-    let mut input = rt.stdin();
-    let mut buffer = vec![in heap; 0u8; CHUNK]?;
+    let mut input = BufReader::with_capacity(heap, CHUNK, rt.stdin())?;
     let mut pending = Pending::new(heap);
     // Nothing says that an input ends, and every loop has to.
     for _ in 0..u64::MAX {
-        let n = input.read(&mut buffer)?;
-        if n == 0 {
+        let part = input.fill_buf()?;
+        let length = part.len();
+        if length == 0 {
             break;
         }
-        play_part(rt, &mut pending, &buffer[..n])?;
+        play_part(rt, &mut pending, part)?;
+        input.consume(length);
     }
     if pending.is_begun() {
         write_answer(rt, pending.end())?;
