@@ -6,7 +6,7 @@ use crate::constants::K;
 use crate::schedule::Schedule;
 use crate::words::Words;
 
-// The hash value after a block. Four rounds a turn were measured to be faster than one (docs/DECISIONS.md has the figures).
+// The hash value after a block. Four rounds a turn, since one a turn was measured to be slower by a seventh (docs/DECISIONS.md has the figures).
 #[tactic(auto, unfolding(crate::specs::Sha256::rounds, crate::specs::Sha256::compressed))]
 pub fn compress(before: Words, block: &[u8; 64]) -> Words
     ensures { result ≡ compressed before block.now }

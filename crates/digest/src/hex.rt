@@ -56,9 +56,8 @@ impl Digest {
         ensures value { result ≡ hex self.now.bytes }
         ensures ascii { IsAscii result }
     {
-        let mut text = [0; 64];
-        text.copy_from_slice(self.bytes.map(pair_of).as_flattened());
-        text
+        let pairs = self.bytes.map(pair_of);
+        *pairs.as_flattened().as_array::<64>().unwrap()
     }
 
     // The digest whose digits a text is, or a refusal.

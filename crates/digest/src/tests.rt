@@ -1,5 +1,6 @@
 // What no script runs: digests read back and compared, and messages in parts.
 use crate::{Digest, Hasher, NotADigest, sha256, sha256_each, sha256_parts};
+use std::cmp::Ordering;
 use std::test::Fail;
 
 const ABC: &str = "ba7816bf8f01cfea414140de5dae2223b00361a396177a9cb410ff61f20015ad";
@@ -33,6 +34,7 @@ fn bytes_decide_the_order(rt: HostRuntime) {
     bytes[0] = 6;
     let less = Digest::from(bytes);
     assert!(rt; low < more && less < low && !(low < low), "order");
+    assert_eq!(rt; low.cmp(&more), Ordering::Less, "order, by cmp");
     assert!(rt; low == low && low != more, "equality");
 }
 

@@ -24,6 +24,7 @@ impl From<[u8; 32]> for Digest {
 }
 
 // What the derived comparisons answer: == decides equality, the order is that of the bytes, and it is total. Nothing runs here: the contract is the theorem.
+// A function whose contract speaks of an order that it asks for calls this first.
 pub fn order_is_total()
     ensures total { TotalOrder }
     ensures decides { (x y : Digest) → Decides (⟦<Digest as PartialEq>⟧.eq x y) (x ≡ y) }

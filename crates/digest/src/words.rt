@@ -70,8 +70,7 @@ impl From<Words> for Digest {
 
     fn from(v: Words) -> Digest {
         let words = [v.a, v.b, v.c, v.d, v.e, v.f, v.g, v.h];
-        let mut bytes = [0; 32];
-        bytes.copy_from_slice(words.map(u32::to_be_bytes).as_flattened());
-        Digest { bytes }
+        let quads = words.map(u32::to_be_bytes);
+        Digest::from(*quads.as_flattened().as_array::<32>().unwrap())
     }
 }
