@@ -11,7 +11,7 @@ use std::alloc::Global;
 // A file has at most so many bytes.
 const MOST_IN_FILE: u64 = 16_777_216;
 
-// May a file have so many bytes? To be asked before a file is read.
+// May a file have so many bytes? To be asked before a file is read. What refuses by the limit says so in its own contract, here and in `Pieces::new` and `cut`.
 pub fn check_length(length: u64) -> Result<(), Refusal>
     ensures { MatchResult result (λ _. length ≤ most_in_file) (TooLong length) }
 {

@@ -34,7 +34,7 @@ fn value_of(c: u8) -> Result<u8, NotADigest>
     }
 }
 
-// The two digits of a byte, in ASCII.
+// The two digits of a byte, in ASCII, which each of these functions says for itself, since an array carries no invariant.
 fn pair_of(byte: u8) -> [u8; 2]
     ensures value { result ≡ hex (byte ∷ []) }
     ensures ascii { IsAscii result }

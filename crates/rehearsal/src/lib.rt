@@ -15,6 +15,6 @@ pub use answer::Answer;
 pub use line::{LineAnswer, LineFault, answer_line};
 pub use listing::{Listed, list_pieces, write_lines};
 pub use pending::{Answered, Pending};
-pub use script::{Fault, Message};
+pub use script::{Fault, Forms, Message};
 pub use step::Step;
 pub use stream::play;

@@ -6,6 +6,7 @@ ghost use Rattle.rehearsal.specs.Unkepts.{fault_of};
 use script::Fault;
 use std::alloc::AllocError;
 
+// No `Fault`, since of all faults only these two can come.
 #[derive(Clone, Copy)]
 pub enum Unkept {
     TooLong,

@@ -62,7 +62,7 @@ impl Message {
         ensures { result ≡ digest_of (bytes_of self.now) }
     {
         match self {
-            Message::Given(bytes) => sha256(bytes.as_slice()),
+            Message::Given(bytes) => sha256(bytes),
             Message::Repeated(byte, count) => digest_of_next(Repeated { byte: *byte }, *count),
             Message::Random(seed, count) => digest_of_next(Generator::new(*seed), *count),
         }
@@ -98,7 +98,7 @@ fn random_bytes(heap: Global, seed: u64, count: u64) -> Result<Vec<u8>, AllocErr
     ensures { IfOk result (λ v. v.items ≡ generated seed count) }
 {
     let mut bytes = vec![in heap; 0u8; count as usize]?;
-    Generator::new(seed).fill(bytes.as_mut_slice());
+    Generator::new(seed).fill(&mut bytes);
     Ok(bytes)
 }
 
@@ -116,7 +116,7 @@ fn digest_of_next<S: Source>(mut source: S, count: u64) -> Digest
         source.fill(&mut buffer);
         hasher.update(&buffer);
     }
-    let last = &mut buffer[0..(count % BUFFER as u64) as usize];
+    let last = &mut buffer[..(count % BUFFER as u64) as usize];
     source.fill(last);
     hasher.update(last);
     hasher.finish()

@@ -73,7 +73,7 @@ impl FromWord for u8 {
     }
 }
 
-// The number that decimal digits spell, where it is one and not too large.
+// The number that decimal digits spell, where it is one and not too large. By hand, since `parse` takes a plus sign, too.
 fn number_value(word: &[u8]) -> Option<u64>
     ensures { NumberValue word.now result }
 {
