@@ -11,7 +11,6 @@ use Rattle.cutting.specs.Results.{contents, Cut}
 
 -- the next piece of what is left goes to those that are found
 pub one_more : (file s t : List ℕ) (ps : List (Bor (List ℕ))) (p : Bor (List ℕ)) → pieces file ≡ contents ps ++ pieces s → pieces s ≡ p.now ∷ pieces t → pieces file ≡ contents (ps ++ (p ∷ [])) ++ pieces t
-unfolding contents
 one_more file s t ps p before step =
     before
     ∙ ap (λ (l : List (List ℕ)). contents ps ++ l) step

@@ -14,7 +14,7 @@ abbrev pub FirstPiece : List ℕ → ℕ → Type 0
 FirstPiece rest n = pieces rest ≡ take n rest ∷ pieces (drop n rest)
 
 -- what slices hold, one by one
-unfoldable pub contents : List (Bor (List ℕ)) → List (List ℕ)
+abbrev pub contents : List (Bor (List ℕ)) → List (List ℕ)
 contents ps = map (λ p. p.now) ps
 
 -- a file of so many bytes is refused, by number 1

@@ -58,7 +58,7 @@ impl<'a> Iterator for Pieces<'a> {
 }
 
 // All pieces of a file. Nothing of it is copied.
-#[tactic(auto, using(crate::proofs::Collected::one_more, crate::proofs::Collected::has_bytes, crate::proofs::Collected::no_memory), unfolding(crate::specs::Results::contents))]
+#[tactic(auto, using(crate::proofs::Collected::one_more, crate::proofs::Collected::has_bytes, crate::proofs::Collected::no_memory))]
 pub fn cut<'a>(heap: Global, file: &'a [u8]) -> Result<Vec<&'a [u8]>, Refusal>
     ensures { Cut file.now result }
 {

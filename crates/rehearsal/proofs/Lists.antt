@@ -1,19 +1,12 @@
 -- Lists of pieces.
 -- Assumes nothing.
-use Rattle.std.proofs.Common.{◌≡◌, ℕ, ◌<◌, List, [], ◌∷◌, length, map, refl, ap, arith, Bor}
+use Rattle.std.proofs.Common.{◌≡◌, ℕ, ◌<◌, List, [], ◌∷◌, length, arith, Bor}
 use Rattle.cutting.specs.Rule.{cut_from, ended, pieces}
 use Rattle.cutting.specs.Results.{contents}
-use Rattle.rehearsal.specs.Listings.{listed}
-
--- the list of slices is that of what they hold
-pub listed_contents : (ps : List (Bor (List ℕ))) → map (λ p. listed p.now) ps ≡ map listed (contents ps)
-unfolding contents
-listed_contents [] = refl
-listed_contents (p ∷ ps) = ap (λ l. listed p.now ∷ l) (listed_contents ps)
 
 -- a file that has a piece has bytes
 pub some_bytes : (file : List ℕ) (ps : List (Bor (List ℕ))) (i : ℕ) → i < length ps → contents ps ≡ pieces file → 0 < length file
-unfolding contents cut_from ended
+unfolding cut_from ended
 some_bytes file [] i h e = elim h [ ]
 some_bytes [] (p ∷ ps) i h e =
     let clash : ◌≡◌ {A = ℕ} 0 1 = cc in

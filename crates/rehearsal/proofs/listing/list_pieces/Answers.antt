@@ -1,8 +1,9 @@
-use Rattle.std.proofs.Common.{map, ap, ◌∙◌, take_all}
+use Rattle.std.proofs.Common.{map, sym, ap, ◌∙◌, take_all}
 use Rattle.std.proofs.lemmas.Result.{err_from_is_err_and}
+use Rattle.std.proofs.lemmas.Simd.{map-map}
 use Rattle.cutting.specs.Results.{contents}
 use Rattle.rehearsal.specs.Listings.{listed}
-use Rattle.rehearsal.proofs.Lists.{listed_contents, some_bytes}
+use Rattle.rehearsal.proofs.Lists.{some_bytes}
 use Rattle.rehearsal.proofs.listing.list_pieces.Goals as goal
 
 pub returns-in_err-push : goal.returns-in_err-push
@@ -17,4 +18,4 @@ pub returns : goal.returns
 returns c =
     let made = c.in_ok-found.ensures in
     let all = take_all _ _ c.loop-piece-test.false ∙ c.deref-piece-items.ensures.value in
-    (made.0, c.loop-piece.invariant ∙ ap (map (λ p. listed p.now)) all ∙ listed_contents _ ∙ ap (map listed) made.1.rule)
+    (made.0, c.loop-piece.invariant ∙ ap (map (λ p. listed p.now)) all ∙ sym (map-map listed (λ p. p.now) _) ∙ ap (map listed) made.1.rule)
