@@ -5,6 +5,3 @@ use Rattle.script.proofs.fault.FaultDisplay.fmt.Goals as goal
 
 pub returns-in-NoHexDigit-clause-writes : goal.returns-in-NoHexDigit-clause-writes
 returns-in-NoHexDigit-clause-writes g c = λ p ok. has_written_of_eq g.W.Write.write_str_gives _ _ _ _ (ap fault_text (sym c.in-NoHexDigit.is)) (c.write-in-NoHexDigit.ensures.writes p ok)
-
-pub returns-in-NoByte-clause-writes : goal.returns-in-NoByte-clause-writes
-returns-in-NoByte-clause-writes g c = λ p ok. has_written_of_eq g.W.Write.write_str_gives _ _ _ _ (ap fault_text (sym c.in-NoByte.is)) (c.write-in-NoByte.ensures.writes p ok)
