@@ -43,9 +43,11 @@ impl Hasher {
         };
         let (whole, end) = after.as_chunks::<64>();
         self.rest.try_extend_from_slice(first).unwrap();
-        self.value = compress_all(compress_all(self.value, self.rest.as_chunks::<64>().0), whole);
-        self.rest.clear();
-        self.rest.try_extend_from_slice(end).unwrap();
+        self.value = compress_all(
+            compress_all(self.value, self.rest.as_chunks::<64>().0),
+            whole,
+        );
+        self.rest = end.try_into().unwrap();
     }
 
     // The digest of all that was taken in. The padding is taken in as the message was: the byte 0x80, bytes 0, and the message's length in bits.
