@@ -43,10 +43,8 @@ impl Hasher {
         };
         let (whole, end) = after.as_chunks::<64>();
         self.rest.try_extend_from_slice(first).unwrap();
-        self.value = compress_all(
-            compress_all(self.value, self.rest.as_chunks::<64>().0),
-            whole,
-        );
+        self.value = compress_all(self.value, self.rest.as_chunks::<64>().0);
+        self.value = compress_all(self.value, whole);
         self.rest = end.try_into().unwrap();
     }
 
