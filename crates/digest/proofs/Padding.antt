@@ -2,7 +2,7 @@
 -- Assumes nothing.
 use Rattle.std.proofs.Common.{◌≡◌, ℕ, ◌-◌, ◌*◌, ◌/◌, ◌%◌, ◌^◌, ◌≤◌, List, [], ◌∷◌, ◌++◌, length, take, replicate, ap, ◌∙◌, subst, append_assoc, append-nil, w64, arith, length-append}
 use lib.ListN.{length-replicate}
-use Rattle.std.proofs.lemmas.List.{take-replicate}
+use Rattle.std.proofs.lemmas.List.{nil_from_length, take-replicate}
 use Rattle.std.specs.Int.{to_be_bytes}
 use Rattle.digest.specs.declared.hasher.Hasher.{Hasher}
 use Rattle.digest.specs.Hasher.{Absorbed}
@@ -40,11 +40,12 @@ padded_whole m =
 -- the hash value once whole blocks are taken in
 pub absorbed_whole : (h : Hasher) (m : List ℕ) → length m % 64 ≡ 0 → Absorbed h m → h.value ≡ hashed (length m / 64) initial m
 absorbed_whole h m whole a =
-    let z = a.size in
-    let none : h.length % 64 ≡ 0 = omega arith in
-    let all : m ≡ a.front = a.rest ∙ ap (λ (k : ℕ). a.front ++ take k h.rest) none ∙ append-nil a.front in
-    let l = ap length all in
+    let parts = ap length a.rest ∙ length-append a.front h.rest.items in
+    let short = a.short in
     let w = a.whole in
+    let none : length h.rest.items ≡ 0 = omega arith in
+    let all : m ≡ a.front = a.rest ∙ ap (λ (l : List ℕ). a.front ++ l) (nil_from_length h.rest.items none) ∙ append-nil a.front in
+    let l = ap length all in
     let n : length m / 64 ≡ a.blocks = omega arith in
     let v = a.value in
     cc

@@ -1,6 +1,6 @@
 -- What a hasher holds of the bytes that it was given.
 -- Assumes nothing.
-use Rattle.std.specs.Prelude.{◌≡◌, ℕ, ◌*◌, ◌%◌, ◌^◌, List, ◌++◌, length, take}
+use Rattle.std.specs.Prelude.{◌≡◌, ℕ, ◌*◌, ◌%◌, ◌^◌, ◌<◌, List, ◌++◌, length}
 use Rattle.digest.specs.declared.hasher.Hasher.{Hasher}
 use Rattle.digest.specs.Sha256.{initial, hashed}
 
@@ -12,5 +12,6 @@ pub record Absorbed (h : Hasher) (m : List ℕ) : Type 0 where
   pub whole : length front ≡ 64 * blocks
   pub value : h.value ≡ hashed blocks initial front
   -- the bytes after them, fewer than a block, wait
-  pub rest : m ≡ front ++ take (h.length % 64) h.rest
+  pub rest : m ≡ front ++ h.rest.items
+  pub short : length h.rest.items < 64
   pub size : h.length ≡ length m % 2 ^ 64

@@ -1,4 +1,5 @@
-use Rattle.std.proofs.Common.{ℕ, ◌/◌, List, ◌++◌, length, sym, ◌∙◌, zero-add, fold, take-append-drop}
+use Rattle.std.proofs.Common.{◌≡◌, ℕ, ◌-◌, ◌/◌, List, ◌++◌, length, sym, ap, ◌∙◌, fold, take-append-drop, arith}
+use Rattle.std.specs.Simd.{first_chunks}
 use Rattle.digest.specs.Sha256.{compressed}
 use Rattle.digest.proofs.Absorbing.{absorbs_many}
 use Rattle.digest.proofs.Blocks.{hashed_in_turn}
@@ -10,7 +11,14 @@ returns c =
     let after : List ℕ = c.in-Some.after.now in
     let parts = c.in-Some.ensures.cases in
     let split = (λ i. parts.1 i ++ parts.2 i) ∙ take-append-drop _ c.args.more.now in
-    let value = c.compress_all-self.ensures ∙ (λ i. fold compressed (c.compress.ensures i) (c.as_chunks.ensures.front i)) ∙ sym (hashed_in_turn (length after / 64) _ after) in
-    let kept = c.put-3.ensures in
-    absorbs_many c.args.self.now m c.args.more.now c.in-Some.first.now after c.as_chunks.result.1.now c.put-2.new.block c.put-3.new.block c.compress_all-self.result
-    split parts.3 c.put-2.array_long c.put-2.ensures value c.as_chunks.ensures.back (rw zero-add at kept) a
+    let room = c.remaining_capacity.ensures in
+    let size = parts.3 in
+    let long : length c.in-Some.first.now ≡ 64 - length c.args.self.now.rest.items = omega arith in
+    let put = c.try_extend_from_slice-2.ensures.ok in
+    let held : List ℕ = c.try_extend_from_slice-2.new.self.items in
+    let begun = c.compress_all-self.ensures ∙ ap (fold compressed c.args.self.now.value) (c.as_chunks-2.ensures.front ∙ ap (λ (xs : List ℕ). first_chunks 64 (length xs / 64) xs) c.deref.ensures.0) ∙ sym (hashed_in_turn (length held / 64) c.args.self.now.value held) in
+    let value = c.compress_all-self-2.ensures ∙ (λ i. fold compressed (begun i) (c.as_chunks.ensures.front i)) ∙ sym (hashed_in_turn (length after / 64) _ after) in
+    let made = c.try_into.ensures in
+    let kept = rw c.unwrap-self.ensures at made in
+    absorbs_many c.args.self.now m c.args.more.now c.in-Some.first.now after c.as_chunks.result.1.now held c.unwrap-self.result c.compress_all-self-2.result
+    split long (rw c.unwrap-2.ensures at put) value c.as_chunks.ensures.back kept.0 a
