@@ -6,14 +6,17 @@ import subprocess
 import tempfile
 import time
 
-from common import TIME_LIMIT, Failure, check, compare, main, programs
+from common import TIME_LIMIT, TOO_LONG_FILE, USAGE, Failure, check, compare, main, programs
 
 EMPTY = "e3b0c44298fc1c149afbf4c8996fb92427ae41e4649b934ca495991b7852b855"
 ABC = "ba7816bf8f01cfea414140de5dae2223b00361a396177a9cb410ff61f20015ad"
 AAA = "9834876dcfb05cb167a5c24953eba58c4ac89b1adf57f28f2f9d09af107ee8f0"
 ONE_FF = "a8100ae6aa1940d0b663bb31cd466142ebbdbd5187131b92d93818987832eb89"
-
-USAGE = "write 'digest HEX' or 'digest repeat BYTE COUNT'"
+# Of the bytes of `random 1 4`, 6c82a562; of those of `random 1073741824 3`.
+RANDOM_1_4 = "4c9dc834ecbb8b2cb70013652d48d92274748cf3ff08cc4d47e809e7cb905757"
+RANDOM_LAST_3 = "d2d9f5f90f5eafe81b4c2a958443f3a3100b3ee0163fd8af4d27986ee512f653"
+ZEROS_2048 = "e5a00aa9991ac8a5ee3109844d84a55583bd20572ad3ffcd42792f3c36b183ad"
+ZEROS_904 = "cc401ce5099578287fd15c062a92893754851bdb7ca3c1fe742bbff85e2281c2"
 
 # Each line, and what follows `line N: ` in its answer.
 REFUSED = [
@@ -25,6 +28,14 @@ REFUSED = [
     (b"digests", "no step is called 'digests'"),
     (b"digest616263", "no step is called 'digest616263'"),
     (b"repeat 61 3", "no step is called 'repeat'"),
+    (b"random 1 3", "no step is called 'random'"),
+    (b"cu", "no step is called 'cu'"),
+    (b"cuts", "no step is called 'cuts'"),
+    (b"Cut 616263", "no step is called 'Cut'"),
+    (b"cut616263", "no step is called 'cut616263'"),
+    (b"cut# 616263", "no step is called 'cut#'"),
+    (b"cut\x0b", r"no step is called 'cut\x0b'"),
+    (b"pieces 1", "no step is called 'pieces'"),
     (b"616263", "no step is called '616263'"),
     (b" \t x#y \t z", "no step is called 'x#y'"),
     (b"digest#", "no step is called 'digest#'"),
@@ -80,6 +91,30 @@ REFUSED = [
     (b"digest repeats 61 3", USAGE),
     (b"digest 61 repeat 3", USAGE),
     (b"digest digest repeat 61 3", USAGE),
+    (b"digest repeat random 1 3", USAGE),
+    (b"digest random", USAGE),
+    (b"digest random \r", USAGE),
+    (b"digest random 1", USAGE),
+    (b"digest random x", USAGE),
+    (b"digest random 1 3 3", USAGE),
+    (b"digest random x x x", USAGE),
+    (b"digest random 1 3 #", USAGE),
+    (b"digest random repeat 61 3", USAGE),
+    (b"digest Random 1 3", USAGE),
+    (b"digest randoms 1 3", USAGE),
+    (b"digest 61 random 3", USAGE),
+    (b"digest cut 616263", USAGE),
+    (b"cut digest 616263", USAGE),
+    (b"cut 61 62", USAGE),
+    (b"cut 61 62 63", USAGE),
+    (b"cut # no comment", USAGE),
+    (b"cut repeat", USAGE),
+    (b"cut repeat 61", USAGE),
+    (b"cut repeat 61 3 3", USAGE),
+    (b"cut repeat 61 16777217 3", USAGE),
+    (b"cut random", USAGE),
+    (b"cut random 1", USAGE),
+    (b"cut random 1 16777217 3", USAGE),
     # Not a hexadecimal digit: the neighbours of the digits, and others.
     (b"digest /0", "'/' is not a hexadecimal digit, at place 1"),
     (b"digest :0", "':' is not a hexadecimal digit, at place 1"),
@@ -99,10 +134,19 @@ REFUSED = [
     (b"digest REPEAT", "'R' is not a hexadecimal digit, at place 1"),
     (b"digest repeats", "'r' is not a hexadecimal digit, at place 1"),
     (b"digest repea", "'r' is not a hexadecimal digit, at place 1"),
+    (b"digest randoms", "'r' is not a hexadecimal digit, at place 1"),
+    (b"digest RANDOM", "'R' is not a hexadecimal digit, at place 1"),
+    (b"digest cut", "'u' is not a hexadecimal digit, at place 2"),
+    (b"cut cut", "'u' is not a hexadecimal digit, at place 2"),
+    (b"cut 61z", "'z' is not a hexadecimal digit, at place 3"),
+    (b"cut #", "'#' is not a hexadecimal digit, at place 1"),
+    (b"cut \r\r", r"'\x0d' is not a hexadecimal digit, at place 1"),
+    (b"cut rando", "'r' is not a hexadecimal digit, at place 1"),
     (b"digest " + b"0" * 99 + b"-", "'-' is not a hexadecimal digit, at place 100"),
     # An odd number of digits.
     (b"digest 0", "an odd number of hexadecimal digits, 1"),
     (b"digest aBc", "an odd number of hexadecimal digits, 3"),
+    (b"cut 616", "an odd number of hexadecimal digits, 3"),
     (b"digest " + b"5" * 12345, "an odd number of hexadecimal digits, 12345"),
     # Not a byte; this is said first if the count is none, either.
     (b"digest repeat 6 3", "'6' is not a byte of two hexadecimal digits"),
@@ -118,6 +162,9 @@ REFUSED = [
     (b"digest repeat zz zz", "'zz' is not a byte of two hexadecimal digits"),
     (b"digest repeat \xff\x00 3", r"'\xff\x00' is not a byte of two hexadecimal digits"),
     (b"digest repeat repeat repeat", "'repeat' is not a byte of two hexadecimal digits"),
+    (b"digest repeat random 3", "'random' is not a byte of two hexadecimal digits"),
+    (b"cut repeat 6 3", "'6' is not a byte of two hexadecimal digits"),
+    (b"cut repeat zz 16777217", "'zz' is not a byte of two hexadecimal digits"),
     (
         b"digest repeat " + b"61" * 20 + b" 3",
         "'" + "61" * 16 + "..' is not a byte of two hexadecimal digits",
@@ -160,9 +207,52 @@ REFUSED = [
         b"digest repeat 61 " + b"9" * 100_000,
         "'" + "9" * 32 + "..' is not a number from 0 to 1073741824",
     ),
+    # The seed, which is said first if the count is no number, either.
+    (b"digest random x 3", "'x' is not a number from 0 to 1073741824"),
+    (b"digest random x y", "'x' is not a number from 0 to 1073741824"),
+    (b"digest random -1 3", "'-1' is not a number from 0 to 1073741824"),
+    (b"digest random +1 3", "'+1' is not a number from 0 to 1073741824"),
+    (b"digest random 0x1 3", "'0x1' is not a number from 0 to 1073741824"),
+    (b"digest random fF 3", "'fF' is not a number from 0 to 1073741824"),
+    (b"digest random 1\x00 3", r"'1\x00' is not a number from 0 to 1073741824"),
+    (b"digest random 1073741825 3", "'1073741825' is not a number from 0 to 1073741824"),
+    (b"digest random 4294967297 3", "'4294967297' is not a number from 0 to 1073741824"),
+    (
+        b"digest random 18446744073709551617 3",
+        "'18446744073709551617' is not a number from 0 to 1073741824",
+    ),
+    (
+        b"digest random " + b"9" * 100_000 + b" 3",
+        "'" + "9" * 32 + "..' is not a number from 0 to 1073741824",
+    ),
+    (b"digest random random random", "'random' is not a number from 0 to 1073741824"),
+    (b"cut random x 16777217", "'x' is not a number from 0 to 1073741824"),
+    (b"cut random 1073741825 16777217", "'1073741825' is not a number from 0 to 1073741824"),
+    # The count after a seed, and that of `cut`.
+    (b"digest random 1 x", "'x' is not a number from 0 to 1073741824"),
+    (b"digest random 1 -1", "'-1' is not a number from 0 to 1073741824"),
+    (b"digest random 1 3\r\r", r"'3\x0d' is not a number from 0 to 1073741824"),
+    (b"digest random 1 1073741825", "'1073741825' is not a number from 0 to 1073741824"),
+    (b"digest random 1 4294967299", "'4294967299' is not a number from 0 to 1073741824"),
+    (
+        b"digest random 1 18446744073709551619",
+        "'18446744073709551619' is not a number from 0 to 1073741824",
+    ),
+    (b"cut random 1 x", "'x' is not a number from 0 to 1073741824"),
+    (b"cut random 1 1073741825", "'1073741825' is not a number from 0 to 1073741824"),
+    (b"cut repeat 61 x", "'x' is not a number from 0 to 1073741824"),
+    (b"cut repeat 61 1073741825", "'1073741825' is not a number from 0 to 1073741824"),
+    (b"cut repeat 61 4294967299", "'4294967299' is not a number from 0 to 1073741824"),
+    # More bytes than a file may have.
+    (b"cut repeat 61 16777217", TOO_LONG_FILE),
+    (b"cut repeat 00 16777217\r", TOO_LONG_FILE),
+    (b"cut repeat 61 " + b"0" * 100 + b"16777217", TOO_LONG_FILE),
+    (b"cut repeat 61 1073741824", TOO_LONG_FILE),
+    (b"cut random 1 16777217", TOO_LONG_FILE),
+    (b"\tcut  random\t1073741824 1073741824 ", TOO_LONG_FILE),
 ]
 
-# Each line, and its digest.
+# Each line, and its answer's lines.
 ANSWERED = [
     (b"digest", EMPTY),
     (b"digest\r", EMPTY),
@@ -183,6 +273,28 @@ ANSWERED = [
     (b"digest repeat 61 " + b"0" * 100_000 + b"3", AAA),
     (b"digest repeat 61 " + b"0" * 100, EMPTY),
     (b"\tdigest\trepeat \t61 \t 3\t\r", AAA),
+    (b"digest 6c82a562", RANDOM_1_4),
+    (b"digest random 1 4", RANDOM_1_4),
+    (b"digest random 01 0004", RANDOM_1_4),
+    (b"digest random " + b"0" * 100_000 + b"1 4", RANDOM_1_4),
+    (b"digest random 1 0", EMPTY),
+    (b"digest random 1073741824 0", EMPTY),
+    (b"digest random 1073741824 3", RANDOM_LAST_3),
+    (b" digest\t random\t\t1 \t4\t\r", RANDOM_1_4),
+    (b"cut", "pieces 0"),
+    (b"cut\r", "pieces 0"),
+    (b"\t cut \t \r", "pieces 0"),
+    (b"cut repeat 61 0", "pieces 0"),
+    (b"cut random 1 0", "pieces 0"),
+    (b"cut 616263", "pieces 1", "3 " + ABC),
+    (b"cut\t616263 \t\r", "pieces 1", "3 " + ABC),
+    (b"cut fF", "pieces 1", "1 " + ONE_FF),
+    (b"cut repeat 61 3", "pieces 1", "3 " + AAA),
+    (b"cut repeat fF 01", "pieces 1", "1 " + ONE_FF),
+    (b"cut random 1 4", "pieces 1", "4 " + RANDOM_1_4),
+    (b"cut random 1073741824 3", "pieces 1", "3 " + RANDOM_LAST_3),
+    (b"cut repeat 00 2048", "pieces 1", "2048 " + ZEROS_2048),
+    (b"cut repeat 00 5000", "pieces 3", "2048 " + ZEROS_2048, "2048 " + ZEROS_2048, "904 " + ZEROS_904),
 ]
 
 # Lines that pass.
@@ -194,6 +306,7 @@ PASSED = [
     b" \t \r",
     b"#",
     b"# digest 616263",
+    b"# cut 616263",
     b"#digest",
     b" \t#",
     b"#\r\r",
@@ -219,6 +332,11 @@ SCRIPTS = [
     (b"digest 616", ["line 1: an odd number of hexadecimal digits, 3"]),
     (b"x", ["line 1: no step is called 'x'"]),
     (b"digest\n\ndigest", [EMPTY, EMPTY]),
+    (b"cut", ["pieces 0"]),
+    (b"cut 616263", ["pieces 1", "3 " + ABC]),
+    (b"cut 616263\n\nx\ncut\n", ["pieces 1", "3 " + ABC, "line 3: no step is called 'x'", "pieces 0"]),
+    (b"cut random 1 16777217\ncut random 1 4", ["line 1: " + TOO_LONG_FILE, "pieces 1", "4 " + RANDOM_1_4]),
+    (b"cut repeat\n00 5000", ["line 1: " + USAGE, "line 2: no step is called '00'"]),
     (b"\n\r\n#\nx\n\n \ny", ["line 4: no step is called 'x'", "line 7: no step is called 'y'"]),
     (b"digest repeat\n61 3\n", ["line 1: " + USAGE, "line 2: no step is called '61'"]),
     (b"\n" * 99_999 + b"x\ny\n", ["line 100000: no step is called 'x'", "line 100001: no step is called 'y'"]),
@@ -263,8 +381,8 @@ def test():
     # Each line alone, with a good line after it.
     for line, message in REFUSED:
         check(line + b"\ndigest 616263\n", ["line 1: " + message, ABC])
-    for line, digest in ANSWERED:
-        check(line + b"\ndigest 616263\n", [digest, ABC])
+    for line, *answer in ANSWERED:
+        check(line + b"\ndigest 616263\n", [*answer, ABC])
     for line in PASSED:
         check(line + b"\ndigest 616263\nx\n", [ABC, "line 3: no step is called 'x'"])
 
@@ -273,9 +391,9 @@ def test():
     for line, message in REFUSED:
         lines += [line, b"digest 616263"]
         expected += [f"line {len(lines) - 1}: {message}", ABC]
-    for line, digest in ANSWERED:
+    for line, *answer in ANSWERED:
         lines.append(line)
-        expected.append(digest)
+        expected += answer
     for line in PASSED:
         lines += [line, b"x"]
         expected.append(f"line {len(lines)}: no step is called 'x'")
@@ -284,8 +402,15 @@ def test():
     from_file(script, expected)
 
     in_pieces(
-        b"\n digest \t616263\r\nx\n#\n\r\ndigest repeat 61 3\ndigest 616",
-        [ABC, "line 3: no step is called 'x'", AAA, "line 7: an odd number of hexadecimal digits, 3"],
+        b"\n digest \t616263\r\nx\n#\n\r\ndigest repeat 61 3\ncut random 1 4\r\ndigest 616",
+        [
+            ABC,
+            "line 3: no step is called 'x'",
+            AAA,
+            "pieces 1",
+            "4 " + RANDOM_1_4,
+            "line 8: an odd number of hexadecimal digits, 3",
+        ],
     )
 
 

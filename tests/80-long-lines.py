@@ -2,10 +2,11 @@
 """Lines of megabytes, and the longest line that is allowed. What is expected is
 written here by hand, from docs/REHEARSE.md."""
 
-from common import MAX_LINE, check, main, sha256
+from common import MAX_LINE, TOO_LONG_FILE, USAGE, check, main, sha256
 
 ABC = "ba7816bf8f01cfea414140de5dae2223b00361a396177a9cb410ff61f20015ad"
-USAGE = "line 1: write 'digest HEX' or 'digest repeat BYTE COUNT'"
+# The SHA-256 of the bytes 6c82a562.
+RANDOM_1_4 = "4c9dc834ecbb8b2cb70013652d48d92274748cf3ff08cc4d47e809e7cb905757"
 TOO_LONG = "longer than 67108864 bytes"
 
 
@@ -19,9 +20,14 @@ def test():
     followed(b"digest " + digits, sha256(bytes.fromhex(digits.decode())))
     followed(b"digest " + digits + b"5", "line 1: an odd number of hexadecimal digits, 10000001")
     followed(b"digest " + digits + b"g", "line 1: 'g' is not a hexadecimal digit, at place 10000001")
-    followed(b"digest " + digits + b" 61", USAGE)
-    followed(b"digest" + b" 61" * 3_000_000, USAGE)
-    followed(b"digest repeat" + b" 61" * 3_000_000, USAGE)
+    followed(b"digest " + digits + b" 61", "line 1: " + USAGE)
+    followed(b"digest" + b" 61" * 3_000_000, "line 1: " + USAGE)
+    followed(b"digest repeat" + b" 61" * 3_000_000, "line 1: " + USAGE)
+    followed(b"cut" + b" 61" * 3_000_000, "line 1: " + USAGE)
+    followed(b"cut random" + b" 61" * 3_000_000, "line 1: " + USAGE)
+    zeros = b"0" * 5_000_000
+    followed(b"digest random " + zeros + b"1 " + zeros + b"4", RANDOM_1_4)
+    followed(b"cut random " + zeros + b"1 " + zeros + b"4", "pieces 1", "4 " + RANDOM_1_4)
     followed(b"Wx" * 5_000_000, "line 1: no step is called '" + "Wx" * 16 + "..'")
     followed(b"\0" * 10_000_000, "line 1: no step is called '" + r"\x00" * 32 + "..'")
     followed(b"#" + b" digest" * 1_500_000)
@@ -34,6 +40,10 @@ def test():
     assert len(longest) == MAX_LINE
     followed(longest, sha256(b"a" * (len(digits) // 2)))
     followed(longest[:-1] + b"\r", "line 1: an odd number of hexadecimal digits, 67108855")
+    followed(b"cut     " + digits, "line 1: " + TOO_LONG_FILE)
+    followed(b"cut     " + digits[:-1] + b"\r", "line 1: an odd number of hexadecimal digits, 67108855")
+    followed(b"cut     " + digits[:-1] + b"z", "line 1: 'z' is not a hexadecimal digit, at place 67108856")
+    followed(b"cut     " + digits + b"6", "line 1: " + TOO_LONG)
     followed(longest + b"6", "line 1: " + TOO_LONG)
     followed(longest + b"\r", "line 1: " + TOO_LONG)
     followed(b"#" * MAX_LINE)

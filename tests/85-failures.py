@@ -24,6 +24,7 @@ def test():
             os.close(folder)
         with open("/dev/full", "wb") as full:
             fails(name, path, "a full disk as its output", input=b"digest 616263\n", stdout=full)
+            fails(name, path, "a full disk for many pieces", input=b"cut repeat 00 9999999\n", stdout=full)
 
 
 main(test)

@@ -4,10 +4,10 @@
 import random
 import re
 
-from common import Failure, main, programs, run, short
+from common import Failure, agreed_lines, main
 
 SEED = 90
-SCRIPTS = 40
+SCRIPTS = 80
 LINES = 250
 
 # Lines to mutate.
@@ -25,6 +25,29 @@ STARTS = [
     b"digest repeat",
     b"digest repeat 6",
     b"digest repeat 616 1",
+    b"digest random 1 4",
+    b"digest random 00 0064",
+    b"digest random 1073741824 99",
+    b"digest random 7 9000",
+    b"digest random 1073741825 3",
+    b"digest random 61 99999999999999999999",
+    b"digest random",
+    b"digest random 1",
+    b"cut",
+    b"cut repeat 61 0",
+    b"cut random 1 0",
+    b"cut 616263",
+    b"cut " + b"00" * 2050,
+    b"cut repeat 00 5000",
+    b"cut repeat 61 3",
+    b"cut repeat 5a 70000",
+    b"cut random 3 40000",
+    b"cut random 12 9000",
+    b"cut repeat 00 20000000",
+    b"cut random 3 1073741824",
+    b"cut random 5 99999999",
+    b"cut random x 20000000",
+    b"cut 61 62",
     b"digest 61 62",
     b"digest 6",
     b"digest zz",
@@ -39,21 +62,31 @@ STARTS = [
 # What is put into lines: the bytes that a script can tell apart.
 PIECES = [b" ", b"\t", b"\r", b"\n", b"#", b"'", b"\\", b"\0", b"0", b"9", b"a", b"F", b"g", b"G"]
 PIECES += [b"\x0b", b"\x1f", b"~", b"\x7f", b"\x80", b"\xff", b"digest", b"repeat", b" 61", b"\r\n"]
+PIECES += [b"cut", b"random", b" 1 "]
 
-# A count that takes both programs long; there are other tests for those.
-SLOW = re.compile(rb"repeat[ \t]+[0-9a-fA-F]{2}[ \t]+0*[1-9][0-9]{6,9}(?![0-9])")
+# A count that takes both programs long; there are other tests for those. `cut`
+# refuses 20,000,000 bytes and more, which takes no time.
+FORM = rb"[ \t]+(?:repeat[ \t]+[0-9a-fA-F]{2}|random[ \t]+[0-9]+)[ \t]+0*"
+SLOW = re.compile(
+    rb"digest" + FORM + rb"[1-9][0-9]{6,9}(?![0-9])"
+    rb"|cut" + FORM + rb"(?:[1-9][0-9]{6}|1[0-9]{7})(?![0-9])"
+)
 
 # What must be among the answers, for the scripts to be worth something.
 KINDS = {
     "a digest": rb"^[0-9a-f]{64}$",
     "a word that is no step": rb"^line [0-9]+: no step is called '",
-    "a word cut short": rb"\.\.'",
+    "a word that is shown in part": rb"\.\.'",
     "a byte that is shown by its number": rb"'.*\\x[0-9a-f]{2}.*'",
-    "the usage": rb"^line [0-9]+: write 'digest HEX'",
+    "the usage": rb"^line [0-9]+: write bytes as HEX, as 'repeat BYTE COUNT' or as 'random SEED COUNT'$",
     "a byte that is no digit": rb"is not a hexadecimal digit, at place [0-9]+$",
     "an odd number of digits": rb": an odd number of hexadecimal digits, [0-9]+$",
     "a word that is no byte": rb"is not a byte of two hexadecimal digits$",
-    "a word that is no count": rb"is not a number from 0 to 1073741824$",
+    "a word that is no number": rb"is not a number from 0 to 1073741824$",
+    "a number of pieces": rb"^pieces [1-9][0-9]*$",
+    "no pieces": rb"^pieces 0$",
+    "a piece": rb"^[1-9][0-9]* [0-9a-f]{64}$",
+    "a file that is too long": rb"^line [0-9]+: refused by 1: a file has at most 16777216 bytes$",
 }
 
 
@@ -92,20 +125,9 @@ def script(source):
 
 def test():
     source = random.Random(SEED)
-    (one, one_path), (other, other_path) = programs()
     answers = []
     for number in range(SCRIPTS):
-        text = script(source)
-        lines = run(one, one_path, text).split(b"\n")
-        others = run(other, other_path, text).split(b"\n")
-        for at, (line, wanted) in enumerate(zip(lines, others), 1):
-            if line != wanted:
-                said = f"answer {at} is {short(line)} of {one}, {short(wanted)} of {other}"
-                raise Failure(f"script {number} of seed {SEED}: {said}")
-        if len(lines) != len(others):
-            said = f"{len(lines) - 1} answers of {one}, {len(others) - 1} of {other}"
-            raise Failure(f"script {number} of seed {SEED}: {said}")
-        answers += lines
+        answers += agreed_lines(script(source), f"script {number} of seed {SEED}")
 
     for kind, pattern in KINDS.items():
         found = sum(1 for line in answers if re.search(pattern, line))

@@ -15,8 +15,16 @@ TIME_LIMIT = 60
 # The longest line that a script may have, its newline not counted.
 MAX_LINE = 67_108_864
 
-# The largest count of `digest repeat`.
+# The largest count, and the largest seed.
 MAX_COUNT = 1_073_741_824
+
+# The longest file that is cut.
+MAX_FILE = 16_777_216
+
+# What follows `line N: ` where the words after a step's name are no form of
+# bytes, and where `cut` is given too many bytes.
+USAGE = "write bytes as HEX, as 'repeat BYTE COUNT' or as 'random SEED COUNT'"
+TOO_LONG_FILE = "refused by 1: a file has at most 16777216 bytes"
 
 
 class Failure(Exception):
@@ -79,6 +87,21 @@ def compare(name, output, expected, script):
     raise Failure(f"{name}: {len(got) - 1} answers, not {len(expected)}, {of}")
 
 
+def agreed_lines(script, what):
+    """The lines that both programs write for a script; they must write the same."""
+    (one, one_path), (other, other_path) = programs()
+    lines = run(one, one_path, script).split(b"\n")
+    others = run(other, other_path, script).split(b"\n")
+    for at, (line, wanted) in enumerate(zip(lines, others), 1):
+        if line != wanted:
+            raise Failure(f"{what}: answer {at} is {short(line)} of {one}, {short(wanted)} of {other}")
+    if len(lines) != len(others):
+        raise Failure(f"{what}: {len(lines) - 1} answers of {one}, {len(others) - 1} of {other}")
+    if lines.pop():
+        raise Failure(f"{what}: the last answer has no newline")
+    return lines
+
+
 def check_digests(messages):
     """Both programs must give the digests that hashlib gives."""
     script = b"".join(b"digest " + message.hex().encode() + b"\n" for message in messages)
@@ -89,6 +112,39 @@ def check_repeats(repeats):
     """The same for messages given as a byte and a count."""
     script = "".join(f"digest repeat {byte:02x} {count}\n" for byte, count in repeats)
     check(script.encode(), [sha256_repeat(byte, count) for byte, count in repeats])
+
+
+def generated(seed, count):
+    """The bytes that `random SEED COUNT` stands for."""
+    made = bytearray()
+    for _ in range(count):
+        seed = (6_364_136_223_846_793_005 * seed + 1_442_695_040_888_963_407) % 2**64
+        made.append(seed >> 56)
+    return bytes(made)
+
+
+def pieces(file):
+    """The pieces of a file, byte by byte by the rule of docs/CUTTING.md."""
+    found, start, number = [], 0, 0
+    for end, byte in enumerate(file, 1):
+        number = (2 * number + 2_654_435_761 * byte) % 2**32
+        length = end - start
+        if end == len(file) or length == 65_536 or length >= 2_048 and number >> 19 == 0:
+            found.append(file[start:end])
+            start = end
+    return found
+
+
+def cut_answer(cut):
+    """The lines that answer `cut`, for pieces that are known."""
+    return [f"pieces {len(cut)}", *(f"{len(piece)} {sha256(piece)}" for piece in cut)]
+
+
+def check_cuts(files):
+    """Both programs must cut each file, given as the words for its bytes and its
+    pieces, into these pieces."""
+    script = "".join(f"cut {words}\n" for words, _ in files)
+    check(script.encode(), [line for _, cut in files for line in cut_answer(cut)])
 
 
 def sha256(message):

@@ -1,24 +1,61 @@
 //! The script of `rehearse`, as `docs/REHEARSE.md` describes it.
 
+use crate::cutting::{self, MAX_FILE};
+use crate::generator::Generator;
 use crate::sha256::{sha256, Sha256};
 use std::fmt;
 use std::io::{self, BufRead, BufReader, BufWriter, Read, Write};
+use std::iter;
 
 /// The bytes that a line may have, its newline not counted.
 pub const MAX_LINE: usize = 67_108_864;
 
-/// The largest count of `digest repeat`.
-pub const MAX_COUNT: u64 = 1_073_741_824;
+/// The largest number of a script: a count or a seed.
+pub const MAX_NUMBER: usize = 1_073_741_824;
 
 /// The bytes of a word that a message shows.
 const SHOWN: usize = 32;
 
-/// The bytes that are decoded or repeated at a time.
-const CHUNK: usize = 8192;
+/// The bytes that are made at a time.
+const PART: usize = 8192;
 
 type Digest = [u8; 32];
 
-/// Why a line is no step.
+/// What a step answers.
+enum Answer {
+    Digest(Digest),
+    /// The length and the digest of each piece.
+    Pieces(Vec<(usize, Digest)>),
+}
+
+impl fmt::Display for Answer {
+    fn fmt(&self, f: &mut fmt::Formatter) -> fmt::Result {
+        match self {
+            Answer::Digest(digest) => Hex(digest).fmt(f),
+            Answer::Pieces(pieces) => {
+                write!(f, "pieces {}", pieces.len())?;
+                for (length, digest) in pieces {
+                    write!(f, "\n{length} {}", Hex(digest))?;
+                }
+                Ok(())
+            }
+        }
+    }
+}
+
+/// Bytes as lowercase hexadecimal digits.
+struct Hex<'a>(&'a [u8]);
+
+impl fmt::Display for Hex<'_> {
+    fn fmt(&self, f: &mut fmt::Formatter) -> fmt::Result {
+        for byte in self.0 {
+            write!(f, "{byte:02x}")?;
+        }
+        Ok(())
+    }
+}
+
+/// Why a line is not played.
 #[derive(Debug, PartialEq, Eq)]
 enum Refusal<'a> {
     TooLong,
@@ -27,7 +64,8 @@ enum Refusal<'a> {
     NotADigit { byte: &'a [u8], place: usize },
     OddDigits(usize),
     NotAByte(&'a [u8]),
-    NotACount(&'a [u8]),
+    NotANumber(&'a [u8]),
+    FileTooLong,
 }
 
 impl fmt::Display for Refusal<'_> {
@@ -35,7 +73,10 @@ impl fmt::Display for Refusal<'_> {
         match self {
             Refusal::TooLong => write!(f, "longer than {MAX_LINE} bytes"),
             Refusal::NoStep(word) => write!(f, "no step is called {}", Quoted(word)),
-            Refusal::Usage => write!(f, "write 'digest HEX' or 'digest repeat BYTE COUNT'"),
+            Refusal::Usage => write!(
+                f,
+                "write bytes as HEX, as 'repeat BYTE COUNT' or as 'random SEED COUNT'"
+            ),
             Refusal::NotADigit { byte, place } => {
                 let byte = Quoted(byte);
                 write!(f, "{byte} is not a hexadecimal digit, at place {place}")
@@ -50,8 +91,11 @@ impl fmt::Display for Refusal<'_> {
                     Quoted(word)
                 )
             }
-            Refusal::NotACount(word) => {
-                write!(f, "{} is not a number from 0 to {MAX_COUNT}", Quoted(word))
+            Refusal::NotANumber(word) => {
+                write!(f, "{} is not a number from 0 to {MAX_NUMBER}", Quoted(word))
+            }
+            Refusal::FileTooLong => {
+                write!(f, "refused by 1: a file has at most {MAX_FILE} bytes")
             }
         }
     }
@@ -89,12 +133,7 @@ pub fn play(input: impl Read, output: impl Write) -> io::Result<()> {
         number += 1;
         match answer {
             None => {}
-            Some(Ok(digest)) => {
-                for byte in digest {
-                    write!(output, "{byte:02x}")?;
-                }
-                writeln!(output)?;
-            }
+            Some(Ok(answer)) => writeln!(output, "{answer}")?,
             Some(Err(refusal)) => writeln!(output, "line {number}: {refusal}")?,
         }
     }
@@ -142,71 +181,115 @@ fn next_line(input: &mut impl BufRead, line: &mut Vec<u8>) -> io::Result<Next> {
 }
 
 /// What is to be written for a line of an allowed length; `None` is nothing.
-fn answer(line: &[u8]) -> Option<Result<Digest, Refusal<'_>>> {
+fn answer(line: &[u8]) -> Option<Result<Answer, Refusal<'_>>> {
     let line = line.strip_suffix(b"\r").unwrap_or(line);
     let mut words = line
         .split(|byte| matches!(byte, b' ' | b'\t'))
         .filter(|word| !word.is_empty());
     match words.next()? {
         [b'#', ..] => None,
-        b"digest" => Some(digest(words)),
+        b"digest" => Some(Bytes::parse(words).map(digest)),
+        b"cut" => Some(Bytes::parse(words).and_then(cut)),
         other => Some(Err(Refusal::NoStep(other))),
     }
 }
 
-/// The step `digest`, whose words after the name are `words`.
-fn digest<'a>(mut words: impl Iterator<Item = &'a [u8]>) -> Result<Digest, Refusal<'a>> {
-    let first = match words.next() {
-        Some(first) => first,
-        None => return Ok(sha256(b"")),
-    };
-    if first != b"repeat" {
-        return match words.next() {
-            None => digest_hex(first),
-            Some(_) => Err(Refusal::Usage),
-        };
-    }
-    let byte = words.next().ok_or(Refusal::Usage)?;
-    let count = words.next().ok_or(Refusal::Usage)?;
-    if words.next().is_some() {
-        return Err(Refusal::Usage);
-    }
-    let byte = parse_byte(byte).ok_or(Refusal::NotAByte(byte))?;
-    let count = parse_count(count).ok_or(Refusal::NotACount(count))?;
-    Ok(digest_repeat(byte, count))
+/// The step `digest`.
+fn digest(bytes: Bytes) -> Answer {
+    let mut hasher = Sha256::new();
+    bytes.each_part(|part| hasher.update(part));
+    Answer::Digest(hasher.finish())
 }
 
-fn digest_hex(hex: &[u8]) -> Result<Digest, Refusal<'_>> {
-    if let Some(at) = hex.iter().position(|digit| !digit.is_ascii_hexdigit()) {
-        let byte = &hex[at..=at];
+/// The step `cut`. A file that is too long is refused before its bytes are made.
+fn cut(bytes: Bytes<'_>) -> Result<Answer, Refusal<'_>> {
+    if bytes.count() > MAX_FILE {
+        return Err(Refusal::FileTooLong);
+    }
+    let mut file = Vec::with_capacity(bytes.count());
+    bytes.each_part(|part| file.extend_from_slice(part));
+    let pieces = cutting::pieces(&file).ok_or(Refusal::FileTooLong)?;
+    let pieces = pieces.iter().map(|piece| (piece.len(), sha256(piece)));
+    Ok(Answer::Pieces(pieces.collect()))
+}
+
+/// The bytes that a step is about.
+enum Bytes<'a> {
+    /// An even number of hexadecimal digits.
+    Hex(&'a [u8]),
+    Repeat {
+        byte: u8,
+        count: usize,
+    },
+    Random {
+        seed: u64,
+        count: usize,
+    },
+}
+
+impl<'a> Bytes<'a> {
+    /// Reads the words after a step's name.
+    fn parse(words: impl Iterator<Item = &'a [u8]>) -> Result<Self, Refusal<'a>> {
+        // No form has more than three words.
+        let words: Vec<&[u8]> = words.take(4).collect();
+        match words[..] {
+            [] => Ok(Bytes::Hex(b"")),
+            [b"repeat", byte, count] => Ok(Bytes::Repeat {
+                byte: parse_byte(byte).ok_or(Refusal::NotAByte(byte))?,
+                count: parse_number(count).ok_or(Refusal::NotANumber(count))?,
+            }),
+            [b"random", seed, count] => Ok(Bytes::Random {
+                seed: parse_number(seed).ok_or(Refusal::NotANumber(seed))? as u64,
+                count: parse_number(count).ok_or(Refusal::NotANumber(count))?,
+            }),
+            [b"repeat" | b"random", ..] => Err(Refusal::Usage),
+            [hex] => parse_hex(hex),
+            _ => Err(Refusal::Usage),
+        }
+    }
+
+    /// How many they are.
+    fn count(&self) -> usize {
+        match *self {
+            Bytes::Hex(digits) => digits.len() / 2,
+            Bytes::Repeat { count, .. } | Bytes::Random { count, .. } => count,
+        }
+    }
+
+    /// Makes the bytes and hands them on, `PART` at a time.
+    fn each_part(&self, take: impl FnMut(&[u8])) {
+        match *self {
+            Bytes::Hex(digits) => each_part(digits.chunks_exact(2).filter_map(parse_byte), take),
+            Bytes::Repeat { byte, count } => each_part(iter::repeat(byte).take(count), take),
+            Bytes::Random { seed, count } => each_part(Generator::new(seed).take(count), take),
+        }
+    }
+}
+
+fn each_part(mut bytes: impl Iterator<Item = u8>, mut take: impl FnMut(&[u8])) {
+    let mut part = Vec::with_capacity(PART);
+    loop {
+        part.clear();
+        part.extend(bytes.by_ref().take(PART));
+        if part.is_empty() {
+            return;
+        }
+        take(&part);
+    }
+}
+
+fn parse_hex(word: &[u8]) -> Result<Bytes<'_>, Refusal<'_>> {
+    if let Some(at) = word.iter().position(|digit| !digit.is_ascii_hexdigit()) {
+        let byte = &word[at..=at];
         return Err(Refusal::NotADigit {
             byte,
             place: at + 1,
         });
     }
-    if hex.len() % 2 == 1 {
-        return Err(Refusal::OddDigits(hex.len()));
+    if word.len() % 2 == 1 {
+        return Err(Refusal::OddDigits(word.len()));
     }
-    let mut hasher = Sha256::new();
-    let mut bytes = Vec::with_capacity(CHUNK);
-    for digits in hex.chunks(2 * CHUNK) {
-        bytes.clear();
-        bytes.extend(digits.chunks_exact(2).filter_map(parse_byte));
-        hasher.update(&bytes);
-    }
-    Ok(hasher.finish())
-}
-
-fn digest_repeat(byte: u8, count: u64) -> Digest {
-    let bytes = [byte; CHUNK];
-    let mut hasher = Sha256::new();
-    let mut left = count;
-    while left > 0 {
-        let now = left.min(CHUNK as u64);
-        hasher.update(&bytes[..now as usize]);
-        left -= now;
-    }
-    hasher.finish()
+    Ok(Bytes::Hex(word))
 }
 
 /// The byte that two hexadecimal digits spell.
@@ -226,19 +309,19 @@ fn hex_digit(digit: u8) -> Option<u8> {
     }
 }
 
-/// The number that decimal digits spell, if it is at most `MAX_COUNT`.
-fn parse_count(word: &[u8]) -> Option<u64> {
-    let mut count = 0;
+/// The number that decimal digits spell, if it is at most `MAX_NUMBER`.
+fn parse_number(word: &[u8]) -> Option<usize> {
+    let mut number: u64 = 0;
     for &digit in word {
         if !digit.is_ascii_digit() {
             return None;
         }
-        count = count * 10 + u64::from(digit - b'0');
-        if count > MAX_COUNT {
+        number = number * 10 + u64::from(digit - b'0');
+        if number > MAX_NUMBER as u64 {
             return None;
         }
     }
-    Some(count)
+    Some(number as usize)
 }
 
 #[cfg(test)]
@@ -247,7 +330,9 @@ mod tests {
 
     const EMPTY: &str = "e3b0c44298fc1c149afbf4c8996fb92427ae41e4649b934ca495991b7852b855\n";
     const ABC: &str = "ba7816bf8f01cfea414140de5dae2223b00361a396177a9cb410ff61f20015ad\n";
-    const USAGE: &str = "line 1: write 'digest HEX' or 'digest repeat BYTE COUNT'\n";
+    const USAGE: &str =
+        "line 1: write bytes as HEX, as 'repeat BYTE COUNT' or as 'random SEED COUNT'\n";
+    const FILE_TOO_LONG: &str = "line 1: refused by 1: a file has at most 16777216 bytes\n";
 
     fn played(script: impl Read) -> String {
         let mut output = Vec::new();
@@ -274,6 +359,68 @@ mod tests {
             b"digest repeat fF 1\ndigest fF\ndigest FF",
             &"a8100ae6aa1940d0b663bb31cd466142ebbdbd5187131b92d93818987832eb89\n".repeat(3),
         );
+        answers(
+            b"digest random 1 4\ndigest random 01 0004\ndigest 6c82a562",
+            &"4c9dc834ecbb8b2cb70013652d48d92274748cf3ff08cc4d47e809e7cb905757\n".repeat(3),
+        );
+        answers(b"digest random 1073741824 0\n", EMPTY);
+    }
+
+    /// Bytes that come in several parts are the same as those that come in one.
+    #[test]
+    fn parts() {
+        for count in [PART - 1, PART, PART + 1, 2 * PART, 3 * PART + 5] {
+            let bytes: Vec<u8> = Generator::new(5).take(count).collect();
+            let expected = format!("{}\n", Hex(&sha256(&bytes)));
+            answers(format!("digest {}", Hex(&bytes)).as_bytes(), &expected);
+            answers(format!("digest random 5 {count}").as_bytes(), &expected);
+            let expected = format!("{}\n", Hex(&sha256(&vec![0x61; count])));
+            answers(format!("digest repeat 61 {count}").as_bytes(), &expected);
+        }
+    }
+
+    #[test]
+    fn cuts() {
+        answers(b"cut", "pieces 0\n");
+        answers(b"cut repeat 61 0", "pieces 0\n");
+        answers(b"cut random 1 0", "pieces 0\n");
+        answers(b"cut 616263\n", &format!("pieces 1\n3 {ABC}"));
+        answers(
+            b"\tcut repeat 00 5000 \r\n",
+            "pieces 3\n\
+             2048 e5a00aa9991ac8a5ee3109844d84a55583bd20572ad3ffcd42792f3c36b183ad\n\
+             2048 e5a00aa9991ac8a5ee3109844d84a55583bd20572ad3ffcd42792f3c36b183ad\n\
+             904 cc401ce5099578287fd15c062a92893754851bdb7ca3c1fe742bbff85e2281c2\n",
+        );
+        answers(
+            b"cut random 1 4\nx\ncut",
+            "pieces 1\n\
+             4 4c9dc834ecbb8b2cb70013652d48d92274748cf3ff08cc4d47e809e7cb905757\n\
+             line 2: no step is called 'x'\n\
+             pieces 0\n",
+        );
+    }
+
+    #[test]
+    fn the_longest_file() {
+        let zeros = "2048 e5a00aa9991ac8a5ee3109844d84a55583bd20572ad3ffcd42792f3c36b183ad\n";
+        answers(
+            b"cut repeat 00 16777216",
+            &format!("pieces 8192\n{}", zeros.repeat(8192)),
+        );
+        answers(b"cut repeat 00 16777217", FILE_TOO_LONG);
+        answers(b"cut random 0 16777217", FILE_TOO_LONG);
+        answers(b"cut random 1 1073741824", FILE_TOO_LONG);
+        let hex = "0".repeat(2 * MAX_FILE + 2);
+        answers(format!("cut {hex}").as_bytes(), FILE_TOO_LONG);
+        answers(
+            format!("cut {hex}0").as_bytes(),
+            "line 1: an odd number of hexadecimal digits, 33554435\n",
+        );
+        answers(
+            format!("cut {hex}g").as_bytes(),
+            "line 1: 'g' is not a hexadecimal digit, at place 33554435\n",
+        );
     }
 
     #[test]
@@ -297,6 +444,8 @@ mod tests {
     fn unknown_steps() {
         answers(b"Digest", "line 1: no step is called 'Digest'\n");
         answers(b"dig#est x", "line 1: no step is called 'dig#est'\n");
+        answers(b"Cut", "line 1: no step is called 'Cut'\n");
+        answers(b"random 1 1", "line 1: no step is called 'random'\n");
         answers(
             b"a'b\\c\x7f~\xff\0",
             "line 1: no step is called 'a\\x27b\\x5cc\\x7f~\\xff\\x00'\n",
@@ -315,12 +464,23 @@ mod tests {
 
     #[test]
     fn usage() {
-        answers(b"digest 61 62", USAGE);
-        answers(b"digest x y z", USAGE);
-        answers(b"digest repeat", USAGE);
-        answers(b"digest repeat 61", USAGE);
-        answers(b"digest repeat 61 1 1", USAGE);
-        answers(b"digest Repeat 61 1", USAGE);
+        for words in [
+            "61 62",
+            "x y z",
+            "repeat",
+            "repeat 61",
+            "repeat 61 1 1",
+            "Repeat 61 1",
+            "random",
+            "random 1",
+            "random x",
+            "random 1 1 1",
+            "Random 1 1",
+            "61 random 1",
+        ] {
+            answers(format!("digest {words}").as_bytes(), USAGE);
+            answers(format!("cut {words}").as_bytes(), USAGE);
+        }
     }
 
     #[test]
@@ -366,10 +526,16 @@ mod tests {
             "1_0",
             "0x1",
         ] {
-            answers(
-                format!("digest repeat 61 {count}").as_bytes(),
-                &format!("line 1: '{count}' is not a number from 0 to 1073741824\n"),
-            );
+            let expected = format!("line 1: '{count}' is not a number from 0 to 1073741824\n");
+            for line in [
+                format!("digest repeat 61 {count}"),
+                format!("digest random 1 {count}"),
+                format!("digest random {count} 1"),
+                format!("digest random {count} y"),
+                format!("cut random {count} 16777217"),
+            ] {
+                answers(line.as_bytes(), &expected);
+            }
         }
     }
 

@@ -8,6 +8,7 @@ use Rattle.rehearsal.specs.declared.line.LineFault.{LineFault}
 use Rattle.rehearsal.specs.declared.pending.Answered.{Answered}
 use Rattle.rehearsal.specs.declared.pending.Pending.{Pending}
 use Rattle.rehearsal.specs.declared.unkept.Unkept.{Unkept}
+use Rattle.rehearsal.specs.declared.unplayed.Unplayed.TheVariants as unplayed
 use Rattle.rehearsal.specs.Answers.{Answers, chomped, most}
 use Rattle.rehearsal.specs.Unkepts.{IsUnkept}
 
@@ -16,9 +17,9 @@ pub data LineAnswers (n : ℕ) (l : List ℕ) (r : Result (Option Answer) LineFa
   -- it is played
   played : length l ≤ most → Answers n (chomped l) r → LineAnswers n l r
   -- it is not looked at
-  too_long : most < length l → r ≡ Err (record { number = n; fault = fault.TooLong }) → LineAnswers n l r
+  too_long : most < length l → r ≡ Err (record { number = n; why = unplayed.Fault fault.TooLong }) → LineAnswers n l r
   -- there was no memory to keep it
-  no_memory : 0 < length l → r ≡ Err (record { number = n; fault = fault.NoMemory }) → LineAnswers n l r
+  no_memory : 0 < length l → r ≡ Err (record { number = n; why = unplayed.Fault fault.NoMemory }) → LineAnswers n l r
 
 -- what is kept of the line l that is being read
 abbrev pub Kept : List ℕ → Result (Vec ℕ Global) Unkept → Type 0

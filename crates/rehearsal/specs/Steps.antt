@@ -3,33 +3,44 @@
 use Rattle.std.specs.Prelude.{◌≡◌, ℕ, ◌<◌, ◌⊎◌, List, [], length, Some, None, Ok, Err, string_bytes, codes, Option, Result, slice_index}
 use Rattle.script.specs.declared.fault.Fault.{Fault}
 use Rattle.script.specs.declared.fault.Fault.TheVariants.{NoMemory, UnknownStep}
-use Rattle.script.specs.declared.forms.Forms.TheVariants.{OfDigest}
 use Rattle.script.specs.Lines.{first, rest}
 use Rattle.script.specs.Messages.{MessageBlamed, MessageRead}
 use Rattle.script.specs.Quotes.{quotation}
 use Rattle.rehearsal.specs.declared.step.Step.{Step}
-use Rattle.rehearsal.specs.declared.step.Step.TheVariants.{Digest}
+use Rattle.rehearsal.specs.declared.step.Step.TheVariants.{Digest, Cut}
 
 -- nothing is to do: there is no word, or the first one begins with #
 abbrev pub Passes : List ℕ → Type 0
 Passes l = (first l ≡ []) ⊎ ((0 < length (first l)) × (slice_index (first l) 0 ≡ 35))
 
--- the name of the step that asks for a digest
+-- the names of the steps
 abbrev pub digest_step : List ℕ
 digest_step = codes "digest"
+
+abbrev pub cut_step : List ℕ
+cut_step = codes "cut"
 
 -- this name stands first
 abbrev pub Named : List ℕ → List ℕ → Type 0
 Named l name = first l ≡ name
 
--- why a line is no step
+-- the name of a step that takes bytes stands first
+abbrev pub TakesBytes : List ℕ → Type 0
+TakesBytes l = Named l digest_step ⊎ Named l cut_step
+
+-- the first word is no step's name, which may be hard to say for want of memory
+abbrev pub NameBlamed : List ℕ → Fault → Type 0
+NameBlamed l NoMemory = (Passes l → ⊥) × (TakesBytes l → ⊥)
+NameBlamed l (UnknownStep t) = (Passes l → ⊥) × (TakesBytes l → ⊥) × (string_bytes t ≡ quotation (first l))
+NameBlamed l other = ⊥
+
+-- why a line is no step: its name, or the bytes after the name
 abbrev pub StepBlamed : List ℕ → Fault → Type 0
-StepBlamed l NoMemory = (Passes l → ⊥) × (Named l digest_step → MessageBlamed OfDigest (rest l) NoMemory)
-StepBlamed l (UnknownStep t) = (Passes l → ⊥) × (Named l digest_step → ⊥) × (string_bytes t ≡ quotation (first l))
-StepBlamed l f = Named l digest_step × MessageBlamed OfDigest (rest l) f
+StepBlamed l f = NameBlamed l f ⊎ (TakesBytes l × MessageBlamed (rest l) f)
 
 -- the step that a line is, if it is one
 abbrev pub StepRead : List ℕ → Result (Option Step) Fault → Type 0
 StepRead l (Ok None) = Passes l
-StepRead l (Ok (Some (Digest m))) = Named l digest_step × MessageRead OfDigest (rest l) (Ok m)
+StepRead l (Ok (Some (Digest m))) = Named l digest_step × MessageRead (rest l) (Ok m)
+StepRead l (Ok (Some (Cut m))) = Named l cut_step × MessageRead (rest l) (Ok m)
 StepRead l (Err f) = StepBlamed l f

@@ -1,16 +1,26 @@
 -- The words of the answers.
 -- Assumes nothing.
-use Rattle.std.specs.Prelude.{ℕ, List, ◌++◌, codes, decimal}
+use Rattle.std.specs.Prelude.{ℕ, List, ◌++◌, codes, decimal, vec_items, vec_len}
+use Rattle.cutting.specs.Refusals.{refusal_text}
 use Rattle.digest.specs.Hex.{hex}
 use Rattle.script.specs.Faults.{fault_text}
 use Rattle.rehearsal.specs.declared.answer.Answer.{Answer}
 use Rattle.rehearsal.specs.declared.answer.Answer.TheVariants as answer
 use Rattle.rehearsal.specs.declared.line.LineFault.{LineFault}
+use Rattle.rehearsal.specs.declared.unplayed.Unplayed.{Unplayed}
+use Rattle.rehearsal.specs.declared.unplayed.Unplayed.TheVariants as unplayed
+use Rattle.rehearsal.specs.Listings.{lines_text}
 
--- what is written for a step: a digest's digits
+-- what is written for a step: a digest's digits, or how many pieces there are and a line for each
 abbrev pub answer_text : Answer → List ℕ
 answer_text (answer.Digest d) = hex d.bytes
+answer_text (answer.Pieces v) = codes "pieces " ++ (decimal (vec_len v) ++ lines_text (vec_items v))
 
--- what is written for a line that is not played: its number and its fault
+-- why a line is not played
+abbrev pub unplayed_text : Unplayed → List ℕ
+unplayed_text (unplayed.Fault f) = fault_text f
+unplayed_text (unplayed.Refusal r) = refusal_text r
+
+-- what is written for a line that is not played: its number and why
 abbrev pub line_fault_text : LineFault → List ℕ
-line_fault_text e = codes "line " ++ (decimal e.number ++ (codes ": " ++ fault_text e.fault))
+line_fault_text e = codes "line " ++ (decimal e.number ++ (codes ": " ++ unplayed_text e.why))

@@ -10,11 +10,13 @@ mod stream;
 #[cfg(test)]
 mod tests;
 mod unkept;
+mod unplayed;
 
 pub use answer::Answer;
 pub use line::{LineAnswer, LineFault, answer_line};
 pub use listing::{Listed, list_pieces, write_lines};
 pub use pending::{Answered, Pending};
-pub use script::{Fault, Forms, Message};
+pub use script::{Fault, Message};
 pub use step::Step;
 pub use stream::play;
+pub use unplayed::Unplayed;

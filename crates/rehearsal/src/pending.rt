@@ -6,6 +6,7 @@ ghost use Rattle.rehearsal.specs.Unkepts.{IsUnkept};
 
 use crate::line::{LineAnswer, LineFault, answer_line};
 use crate::unkept::Unkept;
+use crate::unplayed::Unplayed;
 use script::Fault;
 use std::alloc::Global;
 
@@ -90,9 +91,9 @@ impl Pending {
                 answer
             }
             Err(unkept) => {
-                let fault = Fault::from(*unkept);
+                let why = Unplayed::Fault(Fault::from(*unkept));
                 self.line = Ok(Vec::new(self.heap));
-                Err(LineFault { number, fault })
+                Err(LineFault { number, why })
             }
         };
         self.ended = number;

@@ -1,38 +1,48 @@
-// What no script runs so far: lists of pieces.
-ghost use Rattle.std.specs.Prelude.{None};
-
-use crate::{Listed, list_pieces, write_lines};
-use std::fmt;
+// That lines are played where there is memory: no contract can say when there is.
+use crate::answer_line;
+use std::alloc::Global;
 use std::test::Fail;
 
-// A list as `write_lines` writes it.
-#[derive(Drop)]
-struct Lines(Vec<Listed>);
-
-impl fmt::Display for Lines {
-    ghost output = { λ _. None };
-
-    fn fmt<W: fmt::Write>(&self, f: &mut fmt::Formatter<W>) -> fmt::Result {
-        write_lines(self.0.as_slice(), f)
-    }
+// What is written for a line that is played.
+fn played(heap: Global, line: &[u8]) -> Result<String, Fail> {
+    let Ok(Some(answer)) = answer_line(heap, 1, line) else {
+        return Err(Fail::new("a line is not played"));
+    };
+    Ok(answer.to_string(heap)?)
 }
 
 #[test]
-fn pieces_are_listed(rt: HostRuntime) -> Result<(), Fail> {
-    let Ok(list) = list_pieces(rt.alloc(), &[0; 2952]) else {
-        return Err(Fail::new("2,952 bytes are not cut"));
-    };
-    assert!(rt; list.len() == 2, "two pieces");
-    let first = list[0].to_string(rt.alloc())?;
+fn bytes_have_a_digest(rt: HostRuntime) -> Result<(), Fail> {
+    let text = played(rt.alloc(), b"digest 616263")?;
     assert!(rt;
-        first.as_str() == "2048 e5a00aa9991ac8a5ee3109844d84a55583bd20572ad3ffcd42792f3c36b183ad",
-        "one of them"
+        text.as_str() == "ba7816bf8f01cfea414140de5dae2223b00361a396177a9cb410ff61f20015ad",
+        "its digits"
     );
-    let text = Lines(list).to_string(rt.alloc())?;
+    Ok(())
+}
+
+#[test]
+fn a_file_is_cut(rt: HostRuntime) -> Result<(), Fail> {
+    let text = played(rt.alloc(), b"cut repeat 00 2952")?;
     assert!(rt;
         text.as_str()
-            == "\n2048 e5a00aa9991ac8a5ee3109844d84a55583bd20572ad3ffcd42792f3c36b183ad\n904 cc401ce5099578287fd15c062a92893754851bdb7ca3c1fe742bbff85e2281c2",
-        "a line for each"
+            == "pieces 2\n2048 e5a00aa9991ac8a5ee3109844d84a55583bd20572ad3ffcd42792f3c36b183ad\n904 cc401ce5099578287fd15c062a92893754851bdb7ca3c1fe742bbff85e2281c2",
+        "a line for each piece"
+    );
+    let text = played(rt.alloc(), b"cut")?;
+    assert!(rt; text.as_str() == "pieces 0", "no bytes, no pieces");
+    Ok(())
+}
+
+#[test]
+fn too_long_a_file_is_refused(rt: HostRuntime) -> Result<(), Fail> {
+    let Err(fault) = answer_line(rt.alloc(), 7, b"cut random 1 16777217") else {
+        return Err(Fail::new("it is cut"));
+    };
+    let text = fault.to_string(rt.alloc())?;
+    assert!(rt;
+        text.as_str() == "line 7: refused by 1: a file has at most 16777216 bytes",
+        "under its line's number"
     );
     Ok(())
 }

@@ -2,4 +2,3 @@ mod Blanks
 mod Generating
 mod Reading
 mod Shown
-mod Spelling

@@ -1,22 +1,15 @@
 -- The words of the faults.
 -- Assumes nothing.
 use Rattle.std.specs.Prelude.{ℕ, List, ◌++◌, string_bytes, codes, decimal}
-use Rattle.script.specs.declared.forms.Forms.{Forms}
-use Rattle.script.specs.declared.forms.Forms.TheVariants.{OfDigest, Every}
 use Rattle.script.specs.declared.fault.Fault.{Fault}
 use Rattle.script.specs.declared.fault.Fault.TheVariants.{TooLong, NoMemory, UnknownStep, WrongForm, NoHexDigit, OddDigits, NoByte, NoNumber}
-
--- how the forms that a step takes are written
-abbrev pub forms_text : Forms → List ℕ
-forms_text OfDigest = codes "write 'digest HEX' or 'digest repeat BYTE COUNT'"
-forms_text Every = codes "write bytes as HEX, as 'repeat BYTE COUNT' or as 'random SEED COUNT'"
 
 -- why a line is not played
 abbrev pub fault_text : Fault → List ℕ
 fault_text TooLong = codes "longer than 67108864 bytes"
 fault_text NoMemory = codes "there is not enough memory"
 fault_text (UnknownStep word) = codes "no step is called " ++ string_bytes word
-fault_text (WrongForm forms) = forms_text forms
+fault_text WrongForm = codes "write bytes as HEX, as 'repeat BYTE COUNT' or as 'random SEED COUNT'"
 fault_text (NoHexDigit word place) = string_bytes word ++ (codes " is not a hexadecimal digit, at place " ++ decimal place)
 fault_text (OddDigits count) = codes "an odd number of hexadecimal digits, " ++ decimal count
 fault_text (NoByte word) = string_bytes word ++ codes " is not a byte of two hexadecimal digits"

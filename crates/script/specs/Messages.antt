@@ -2,9 +2,7 @@
 -- Assumes nothing.
 use Rattle.std.specs.Prelude.{◌≡◌, ℕ, ◌<◌, ◌⊎◌, List, [], length, replicate, Ok, Err, vec_items, codes, Result}
 use Rattle.script.specs.declared.fault.Fault.{Fault}
-use Rattle.script.specs.declared.fault.Fault.TheVariants.{TooLong, UnknownStep, WrongForm}
-use Rattle.script.specs.declared.forms.Forms.{Forms}
-use Rattle.script.specs.declared.forms.Forms.TheVariants.{Every}
+use Rattle.script.specs.declared.fault.Fault.TheVariants.{WrongForm}
 use Rattle.script.specs.declared.message.Message.{Message}
 use Rattle.script.specs.declared.message.Message.TheVariants.{Given, Repeated, Random}
 use Rattle.script.specs.Generators.{generated}
@@ -31,11 +29,11 @@ repeat = codes "repeat"
 abbrev pub random : List ℕ
 random = codes "random"
 
--- one word, other than those; `random` is an ordinary word where that form is not taken
-pub record OneWord (forms : Forms) (l : List ℕ) : Type 0 where
+-- one word, other than those
+pub record OneWord (l : List ℕ) : Type 0 where
   pub there : 0 < length (first l)
   pub no_repeat : first l ≡ repeat → ⊥
-  pub no_random : forms ≡ Every → first l ≡ random → ⊥
+  pub no_random : first l ≡ random → ⊥
   pub alone : second l ≡ []
 
 -- two words
@@ -49,38 +47,30 @@ pub record Form (name l : List ℕ) : Type 0 where
   pub named : first l ≡ name
   pub words : TwoWords (rest l)
 
--- the form with a seed, where it is taken
-abbrev pub RandomForm : Forms → List ℕ → Type 0
-RandomForm forms l = (forms ≡ Every) × Form random l
-
 -- neither no word, nor one of those forms
-abbrev pub NoForm : Forms → List ℕ → Type 0
-NoForm forms l = (0 < length (first l)) × (OneWord forms l → ⊥) × (Form repeat l → ⊥) × (RandomForm forms l → ⊥)
+abbrev pub NoForm : List ℕ → Type 0
+NoForm l = (0 < length (first l)) × (OneWord l → ⊥) × (Form repeat l → ⊥) × (Form random l → ⊥)
 
 -- what is wrong with two words, the first of them first, where each is read in its way
 abbrev pub TwoBlamed : {A B : Type 0} → (List ℕ → Result A Fault → Type 0) → (List ℕ → Result B Fault → Type 0) → List ℕ → Fault → Type 0
 TwoBlamed {A} One Other l f = One (first l) (Err f) ⊎ ((x : A) × One (first l) (Ok x) × Other (second l) (Err f))
 
 -- what reading two words may answer: the two values, that there are not two words, or what is wrong with one
-abbrev pub TwoRead : {A B : Type 0} → (List ℕ → Result A Fault → Type 0) → (List ℕ → Result B Fault → Type 0) → Forms → List ℕ → Result (A × B) Fault → Type 0
-TwoRead One Other forms l (Ok p) = TwoWords l × One (first l) (Ok p.0) × Other (second l) (Ok p.1)
-TwoRead One Other forms l (Err f) = ((f ≡ WrongForm forms) × (TwoWords l → ⊥)) ⊎ (TwoWords l × TwoBlamed One Other l f)
+abbrev pub TwoRead : {A B : Type 0} → (List ℕ → Result A Fault → Type 0) → (List ℕ → Result B Fault → Type 0) → List ℕ → Result (A × B) Fault → Type 0
+TwoRead One Other l (Ok p) = TwoWords l × One (first l) (Ok p.0) × Other (second l) (Ok p.1)
+TwoRead One Other l (Err f) = ((f ≡ WrongForm) × (TwoWords l → ⊥)) ⊎ (TwoWords l × TwoBlamed One Other l f)
 
 -- what is wrong with the words of one of those forms
-abbrev pub WordsBlamed : Forms → List ℕ → Fault → Type 0
-WordsBlamed forms l f =
-    (OneWord forms l × HexBlamed (first l) f) ⊎ ((Form repeat l × TwoBlamed ByteRead NumberRead (rest l) f) ⊎ (RandomForm forms l × TwoBlamed NumberRead NumberRead (rest l) f))
+abbrev pub WordsBlamed : List ℕ → Fault → Type 0
+WordsBlamed l f = (OneWord l × HexBlamed (first l) f) ⊎ ((Form repeat l × TwoBlamed ByteRead NumberRead (rest l) f) ⊎ (Form random l × TwoBlamed NumberRead NumberRead (rest l) f))
 
 -- why the words after a step's name stand for no bytes
-abbrev pub MessageBlamed : Forms → List ℕ → Fault → Type 0
-MessageBlamed forms l TooLong = ⊥
-MessageBlamed forms l (UnknownStep t) = ⊥
-MessageBlamed forms l (WrongForm taken) = (taken ≡ forms) × NoForm forms l
-MessageBlamed forms l other = WordsBlamed forms l other
+abbrev pub MessageBlamed : List ℕ → Fault → Type 0
+MessageBlamed l f = ((f ≡ WrongForm) × NoForm l) ⊎ WordsBlamed l f
 
--- what the words after a step's name stand for: no bytes, HEX, repeat BYTE COUNT, or random SEED COUNT where that is taken
-abbrev pub MessageRead : Forms → List ℕ → Result Message Fault → Type 0
-MessageRead forms l (Ok (Given v)) = ((first l ≡ []) × (vec_items v ≡ [])) ⊎ (OneWord forms l × HexRead (first l) (Ok v))
-MessageRead forms l (Ok (Repeated b n)) = Form repeat l × ByteRead (second l) (Ok b) × NumberRead (third l) (Ok n)
-MessageRead forms l (Ok (Random s n)) = RandomForm forms l × NumberRead (second l) (Ok s) × NumberRead (third l) (Ok n)
-MessageRead forms l (Err f) = MessageBlamed forms l f
+-- what the words after a step's name stand for: no bytes, HEX, repeat BYTE COUNT, or random SEED COUNT
+abbrev pub MessageRead : List ℕ → Result Message Fault → Type 0
+MessageRead l (Ok (Given v)) = ((first l ≡ []) × (vec_items v ≡ [])) ⊎ (OneWord l × HexRead (first l) (Ok v))
+MessageRead l (Ok (Repeated b n)) = Form repeat l × ByteRead (second l) (Ok b) × NumberRead (third l) (Ok n)
+MessageRead l (Ok (Random s n)) = Form random l × NumberRead (second l) (Ok s) × NumberRead (third l) (Ok n)
+MessageRead l (Err f) = MessageBlamed l f

@@ -3,7 +3,6 @@ ghost use Rattle.std.specs.Prelude.{◌≡◌, Some};
 ghost use Rattle.script.specs.declared.fault.Fault.TheVariants.{NoMemory};
 ghost use Rattle.script.specs.Faults.{fault_text};
 
-use crate::forms::Forms;
 use std::alloc::{AllocError, AllocFailed};
 use std::fmt;
 
@@ -15,8 +14,8 @@ pub enum Fault {
     NoMemory,
     // no step has this name
     UnknownStep(String),
-    // none of the forms that the step takes
-    WrongForm(Forms),
+    // none of the forms of bytes
+    WrongForm,
     // this is not a hexadecimal digit, at this place
     NoHexDigit(String, usize),
     // so many hexadecimal digits, an odd number
@@ -52,7 +51,10 @@ impl fmt::Display for Fault {
             Fault::TooLong => write!(f, "longer than 67108864 bytes"),
             Fault::NoMemory => write!(f, "there is not enough memory"),
             Fault::UnknownStep(word) => write!(f, "no step is called {word}"),
-            Fault::WrongForm(forms) => write!(f, "{forms}"),
+            Fault::WrongForm => write!(
+                f,
+                "write bytes as HEX, as 'repeat BYTE COUNT' or as 'random SEED COUNT'"
+            ),
             Fault::NoHexDigit(word, place) => {
                 write!(f, "{word} is not a hexadecimal digit, at place {place}")
             }

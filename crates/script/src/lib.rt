@@ -2,7 +2,6 @@
 #![tactic(auto)]
 
 mod fault;
-mod forms;
 mod generator;
 mod message;
 mod numerals;
@@ -13,7 +12,6 @@ mod source;
 mod tests;
 
 pub use fault::Fault;
-pub use forms::Forms;
 pub use message::Message;
 pub use quote::quoted;
 pub use scan::{is_word, next_word};

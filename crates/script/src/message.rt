@@ -5,7 +5,6 @@ ghost use Rattle.digest.specs.Digests.{digest_of};
 ghost use Rattle.script.specs.Messages.{bytes_of, TwoRead, MessageRead};
 
 use crate::fault::Fault;
-use crate::forms::Forms;
 use crate::generator::Generator;
 use crate::numerals::FromWord;
 use crate::scan::{is_word, next_word, two_words};
@@ -24,35 +23,31 @@ pub enum Message {
 }
 
 // The two words that a form has behind its name.
-fn read_two<A: FromWord, B: FromWord>(
-    heap: Global,
-    words: &[u8],
-    forms: Forms,
-) -> Result<(A, B), Fault>
-    ensures { TwoRead A.reads B.reads forms words.now result }
+fn read_two<A: FromWord, B: FromWord>(heap: Global, words: &[u8]) -> Result<(A, B), Fault>
+    ensures { TwoRead A.reads B.reads words.now result }
 {
-    let (one, two) = two_words(words).ok_or(Fault::WrongForm(forms))?;
+    let (one, two) = two_words(words).ok_or(Fault::WrongForm)?;
     Ok((A::from_word(heap, one)?, B::from_word(heap, two)?))
 }
 
 impl Message {
-    // What the words after a step's name spell: nothing, HEX, repeat BYTE COUNT, or, where the step takes it, random SEED COUNT.
-    pub fn read(heap: Global, words: &[u8], forms: Forms) -> Result<Message, Fault>
-        ensures { MessageRead forms words.now result }
+    // What the words after a step's name spell: nothing, HEX, repeat BYTE COUNT, or random SEED COUNT.
+    pub fn read(heap: Global, words: &[u8]) -> Result<Message, Fault>
+        ensures { MessageRead words.now result }
     {
         let Some((word, others)) = next_word(words) else {
             return Ok(Message::Given(Vec::new(heap)));
         };
         if is_word(word, b"repeat") {
-            let (byte, count) = read_two(heap, others, forms)?;
+            let (byte, count) = read_two(heap, others)?;
             return Ok(Message::Repeated(byte, count));
         }
-        if forms == Forms::Every && is_word(word, b"random") {
-            let (seed, count) = read_two(heap, others, forms)?;
+        if is_word(word, b"random") {
+            let (seed, count) = read_two(heap, others)?;
             return Ok(Message::Random(seed, count));
         }
         if next_word(others).is_some() {
-            return Err(Fault::WrongForm(forms));
+            return Err(Fault::WrongForm);
         }
         Ok(Message::Given(Vec::from_word(heap, word)?))
     }

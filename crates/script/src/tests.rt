@@ -1,15 +1,15 @@
 // What no script runs: bytes from a seed, bytes that are all in memory, and words by themselves.
-use crate::{Forms, Message, is_word, next_word, quoted};
+use crate::{Message, is_word, next_word, quoted};
 use digest::sha256;
 use std::test::Fail;
 
 #[test]
 fn bytes_in_each_form(rt: HostRuntime) -> Result<(), Fail> {
-    let Ok(given) = Message::read(rt.alloc(), b" 616263 ", Forms::Every) else {
+    let Ok(given) = Message::read(rt.alloc(), b" 616263 ") else {
         return Err(Fail::new("hexadecimal digits are refused"));
     };
     assert!(rt; given.digest() == sha256(b"abc"), "digits");
-    let Ok(repeated) = Message::read(rt.alloc(), b"repeat 61 4097", Forms::Every) else {
+    let Ok(repeated) = Message::read(rt.alloc(), b"repeat 61 4097") else {
         return Err(Fail::new("a repeated byte is refused"));
     };
     let digest = repeated.digest();
@@ -19,7 +19,7 @@ fn bytes_in_each_form(rt: HostRuntime) -> Result<(), Fail> {
         bytes.len() == 4097 && sha256(bytes.as_slice()) == digest,
         "all of them"
     );
-    let Ok(random) = Message::read(rt.alloc(), b"random 1 4", Forms::Every) else {
+    let Ok(random) = Message::read(rt.alloc(), b"random 1 4") else {
         return Err(Fail::new("a seed is refused"));
     };
     let digest = random.digest();
@@ -47,7 +47,7 @@ fn words_and_faults(rt: HostRuntime) -> Result<(), Fail> {
     );
     let shown = quoted(rt.alloc(), b"a'b")?;
     assert!(rt; shown.as_str() == "'a\\x27b'", "a word as it is shown");
-    let Err(fault) = Message::read(rt.alloc(), b"61x", Forms::Every) else {
+    let Err(fault) = Message::read(rt.alloc(), b"61x") else {
         return Err(Fail::new("61x is read"));
     };
     let text = fault.to_string(rt.alloc())?;
@@ -59,30 +59,14 @@ fn words_and_faults(rt: HostRuntime) -> Result<(), Fail> {
 }
 
 #[test]
-fn forms_of_digest(rt: HostRuntime) -> Result<(), Fail> {
-    let Err(fault) = Message::read(rt.alloc(), b"random 1 2", Forms::OfDigest) else {
-        return Err(Fail::new("a seed is taken"));
-    };
-    let text = fault.to_string(rt.alloc())?;
-    assert!(rt;
-        text.as_str() == "write 'digest HEX' or 'digest repeat BYTE COUNT'",
-        "the forms that are taken"
-    );
-    let Err(fault) = Message::read(rt.alloc(), b"random", Forms::OfDigest) else {
-        return Err(Fail::new("random is read"));
-    };
-    let text = fault.to_string(rt.alloc())?;
-    assert!(rt;
-        text.as_str() == "'r' is not a hexadecimal digit, at place 1",
-        "random is a word like others"
-    );
-    let Err(fault) = Message::read(rt.alloc(), b"random 1", Forms::Every) else {
+fn forms_of_bytes(rt: HostRuntime) -> Result<(), Fail> {
+    let Err(fault) = Message::read(rt.alloc(), b"random 1") else {
         return Err(Fail::new("a seed alone is read"));
     };
     let text = fault.to_string(rt.alloc())?;
     assert!(rt;
         text.as_str() == "write bytes as HEX, as 'repeat BYTE COUNT' or as 'random SEED COUNT'",
-        "all forms"
+        "the forms that there are"
     );
     Ok(())
 }
