@@ -36,7 +36,7 @@ def programs():
     """The two programs, each as its name and its path."""
     rehearse = Path(os.environ.get("REHEARSE") or TOP / "target/bin/rehearse")
     if not os.access(rehearse, os.X_OK):
-        raise Failure(f"no program at {rehearse}: run 'rt check' first")
+        raise Failure(f"no program at {rehearse}: run tools/build first")
     if os.environ.get("REFERENCE"):
         reference = Path(os.environ["REFERENCE"])
         if not os.access(reference, os.X_OK):
