@@ -28,13 +28,13 @@ Named l name = first l ≡ name
 abbrev pub TakesBytes : List ℕ → Type 0
 TakesBytes l = Named l digest_step ⊎ Named l cut_step
 
--- the first word is no step's name, which may be hard to say for want of memory
+-- the first word is no step's name; want of memory may come in the place of the words that say so
 abbrev pub NameBlamed : List ℕ → Fault → Type 0
 NameBlamed l NoMemory = (Passes l → ⊥) × (TakesBytes l → ⊥)
 NameBlamed l (UnknownStep t) = (Passes l → ⊥) × (TakesBytes l → ⊥) × (string_bytes t ≡ quotation (first l))
 NameBlamed l other = ⊥
 
--- why a line is no step: its name, or the bytes after the name
+-- why a line is no step: its first word is no name, or the words after a name stand for no bytes
 abbrev pub StepBlamed : List ℕ → Fault → Type 0
 StepBlamed l f = NameBlamed l f ⊎ (TakesBytes l × MessageBlamed (rest l) f)
 

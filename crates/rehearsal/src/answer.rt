@@ -8,7 +8,6 @@ use std::fmt;
 
 #[derive(Drop)]
 pub enum Answer {
-    // the digest
     Digest(Digest),
     // the pieces of a file
     Pieces(Vec<Listed>),

@@ -27,7 +27,7 @@ impl fmt::Display for LineFault {
 // What is written for a line: nothing for one that asks for nothing.
 pub type LineAnswer = Result<Option<Answer>, LineFault>;
 
-// Plays one line.
+// What a line answers, or why it is not played.
 fn play_line(heap: Global, line: &[u8]) -> Result<Option<Answer>, Unplayed>
     ensures { LinePlayed line.now result }
 {
@@ -37,7 +37,7 @@ fn play_line(heap: Global, line: &[u8]) -> Result<Option<Answer>, Unplayed>
     }
 }
 
-// The answer to one line, without its end.
+// The answer to a line, which is given without its end.
 pub fn answer_line(heap: Global, number: u64, line: &[u8]) -> LineAnswer
     ensures { Answers number line.now result }
 {

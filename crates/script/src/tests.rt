@@ -1,4 +1,4 @@
-// What no script runs: bytes from a seed, bytes that are all in memory, and words by themselves.
+// That bytes are read where there is memory, since no contract can say when there is; and words by themselves.
 use crate::{Message, is_word, next_word, quoted};
 use digest::sha256;
 use std::test::Fail;
