@@ -1,0 +1,69 @@
+#!/usr/bin/env -S python3 -B
+"""Where `rehearse` has little memory, each line gets its answer or is told so,
+and the script goes on. The plain Rust program gives up there, and is left out."""
+
+import resource
+import subprocess
+
+from common import MAX_FILE, TIME_LIMIT, Failure, check, cut_answer, main, pieces, programs, sha256
+
+MEGABYTE = 1 << 20
+NO_MEMORY = "there is not enough memory"
+
+# Lines that need less and less memory, and their answers.
+LINES = [
+    (b"cut repeat 61 %d" % MAX_FILE, cut_answer([b"a" * 65_536] * 256)),
+    (b"digest " + b"61" * 2_000_000, [sha256(b"a" * 2_000_000)]),
+    (b"cut repeat 00 3000000", cut_answer([bytes(2_048)] * 1_464 + [bytes(1_728)])),
+    (b"cut 616263", cut_answer(pieces(b"abc"))),
+    (b"digest repeat 61 3", [sha256(b"aaa")]),
+]
+
+
+def answers(path, script, limit):
+    """What the program writes where it may have so many bytes of addresses."""
+
+    def set_limit():
+        resource.setrlimit(resource.RLIMIT_AS, (limit, limit))
+
+    done = subprocess.run([path], input=script, capture_output=True, timeout=TIME_LIMIT, preexec_fn=set_limit)
+    if done.returncode != 0 or done.stderr:
+        raise Failure(f"with {limit} bytes: exit status {done.returncode}, standard error {done.stderr[:200]}")
+    return done.stdout.decode().splitlines()
+
+
+def played(got, limit):
+    """Which lines were played. Each must have its answer, or be told that there is not enough memory."""
+    which = []
+    for number, (_, wanted) in enumerate(LINES, 1):
+        if got[: len(wanted)] == wanted:
+            which.append(True)
+            got = got[len(wanted) :]
+        elif got[:1] == [f"line {number}: {NO_MEMORY}"]:
+            which.append(False)
+            got = got[1:]
+        else:
+            raise Failure(f"with {limit} bytes: line {number} is answered by {got[:1]}")
+    if got:
+        raise Failure(f"with {limit} bytes: {len(got)} lines too many")
+    return which
+
+
+def test():
+    script = b"".join(line + b"\n" for line, _ in LINES)
+    check(script, [line for _, answer in LINES for line in answer])
+
+    (_, path), _ = programs()
+    limits = range(6 * MEGABYTE, 40 * MEGABYTE, MEGABYTE)
+    found = [played(answers(path, script, limit), limit) for limit in limits]
+    counts = ", ".join(str(sum(which)) for which in found)
+    print(f"lines that were played, of {len(LINES)}, with 6 MiB and more: {counts}")
+    if not any(not which[0] and which[1] for which in found):
+        raise Failure("with no limit was there memory for the second line and not for the first")
+    if not all(found[-1]):
+        raise Failure("with the largest limit there was not enough memory")
+    if not all(which[-1] for which in found):
+        raise Failure("a line that needs no memory but its own was not played")
+
+
+main(test)
