@@ -13,6 +13,7 @@ mod unkept;
 mod unplayed;
 
 pub use answer::Answer;
+pub use cutting::Refusal;
 pub use line::{LineAnswer, LineFault, answer_line};
 pub use listing::{Listed, list_pieces, write_lines};
 pub use pending::{Answered, Pending};

@@ -18,7 +18,7 @@ pub enum Step {
     Cut(Message),
 }
 
-// The pieces of a file of these bytes. A file that is too long is refused before its bytes are there.
+// The pieces of a file of these bytes. A file that is too long is refused before they are all in memory, unless they already are.
 fn cut_message(heap: Global, message: Message) -> Result<Vec<Listed>, Refusal>
     ensures { Lists (bytes_of message) result }
 {

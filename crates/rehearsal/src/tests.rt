@@ -1,4 +1,4 @@
-// That lines are played where there is memory: no contract can say when there is.
+// That lines are played where there is memory, since no contract can say when there is; and what a refusal looks like.
 use crate::answer_line;
 use std::alloc::Global;
 use std::test::Fail;

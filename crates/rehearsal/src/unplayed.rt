@@ -9,7 +9,7 @@ use std::fmt;
 
 #[derive(Drop)]
 pub enum Unplayed {
-    // it is no step
+    // it is no step, or is not kept
     Fault(Fault),
     // it is one, and what it asks is refused
     Refusal(Refusal),

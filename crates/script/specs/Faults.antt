@@ -4,7 +4,7 @@ use Rattle.std.specs.Prelude.{ℕ, List, ◌++◌, string_bytes, codes, decimal}
 use Rattle.script.specs.declared.fault.Fault.{Fault}
 use Rattle.script.specs.declared.fault.Fault.TheVariants.{TooLong, NoMemory, UnknownStep, WrongForm, NoHexDigit, OddDigits, NoByte, NoNumber}
 
--- why a line is not played
+-- why a line is no step
 abbrev pub fault_text : Fault → List ℕ
 fault_text TooLong = codes "longer than 67108864 bytes"
 fault_text NoMemory = codes "there is not enough memory"

@@ -1,4 +1,4 @@
-// Why a line is not played, in the words of its answer.
+// Why a line is no step, in the words of its answer.
 ghost use Rattle.std.specs.Prelude.{◌≡◌, Some};
 ghost use Rattle.script.specs.declared.fault.Fault.TheVariants.{NoMemory};
 ghost use Rattle.script.specs.Faults.{fault_text};
@@ -10,7 +10,7 @@ use std::fmt;
 pub enum Fault {
     // the line is longer than a line may be
     TooLong,
-    // there was no memory for the line or for what it asks
+    // there was no memory for the line, the bytes that it spells or the words of its fault
     NoMemory,
     // no step has this name
     UnknownStep(String),
