@@ -10,10 +10,10 @@ from common import MAX_FILE, TIME_LIMIT, Failure, check, cut_answer, main, piece
 MEGABYTE = 1 << 20
 NO_MEMORY = "there is not enough memory"
 
-# Lines that need less and less memory, and their answers.
+# Lines, and their answers. The first two need much memory, the last one none but its own.
 LINES = [
     (b"cut repeat 61 %d" % MAX_FILE, cut_answer([b"a" * 65_536] * 256)),
-    (b"digest " + b"61" * 2_000_000, [sha256(b"a" * 2_000_000)]),
+    (b"digest " + b"61" * 5_000_000, [sha256(b"a" * 5_000_000)]),
     (b"cut repeat 00 3000000", cut_answer([bytes(2_048)] * 1_464 + [bytes(1_728)])),
     (b"cut 616263", cut_answer(pieces(b"abc"))),
     (b"digest repeat 61 3", [sha256(b"aaa")]),
@@ -54,12 +54,13 @@ def test():
     check(script, [line for _, answer in LINES for line in answer])
 
     (_, path), _ = programs()
-    limits = range(6 * MEGABYTE, 40 * MEGABYTE, MEGABYTE)
+    limits = range(12 * MEGABYTE, 80 * MEGABYTE, 2 * MEGABYTE)
     found = [played(answers(path, script, limit), limit) for limit in limits]
     counts = ", ".join(str(sum(which)) for which in found)
-    print(f"lines that were played, of {len(LINES)}, with 6 MiB and more: {counts}")
-    if not any(not which[0] and which[1] for which in found):
-        raise Failure("with no limit was there memory for the second line and not for the first")
+    print(f"lines that were played, of {len(LINES)}, with 12 MiB, 14 MiB and so on: {counts}")
+    for line in 0, 1:
+        if not any(which[2] and not which[line] for which in found):
+            raise Failure(f"with no limit was there memory for line 3 and not for line {line + 1}")
     if not all(found[-1]):
         raise Failure("with the largest limit there was not enough memory")
     if not all(which[-1] for which in found):
