@@ -3,15 +3,19 @@
 use Rattle.std.specs.Prelude.{ℕ, cond, List, ◌++◌, Some, None, codes, decimal, Option, nat_le}
 use Rattle.std.specs.Option.{unwrap_or}
 use Rattle.cutting.specs.declared.refusal.Refusal.{Refusal}
-use Rattle.cutting.specs.declared.refusal.Refusal.TheVariants.{FileTooLong, Unknown, BadDay, MakesDay, MakesNone, NotAtThatPoint, TooManyNames, LastNumber, NoMemory, ReadOrWrite}
+use Rattle.cutting.specs.declared.refusal.Refusal.TheVariants.{FileTooLong, PieceTooLong, Unknown, BadDay, DayIsThere, MakesDay, MakesNone, HasNumber, HasNoNumber, NotAtThatPoint, TooManyNames, LastNumber, NoMemory, ReadOrWrite}
 
 -- the number of a refusal; want of memory and a failed read or write have none
 abbrev pub number_of : Refusal → Option ℕ
 number_of FileTooLong = Some 1
+number_of PieceTooLong = Some 1
 number_of Unknown = Some 1
 number_of BadDay = Some 2
+number_of DayIsThere = Some 2
 number_of MakesDay = Some 3
 number_of MakesNone = Some 3
+number_of HasNumber = Some 3
+number_of HasNoNumber = Some 3
 number_of NotAtThatPoint = Some 4
 number_of TooManyNames = Some 5
 number_of LastNumber = Some 6
@@ -29,10 +33,14 @@ lowest a b = cond (nat_le (rank a) (rank b)) a b
 -- what a refusal says
 abbrev pub words : Refusal → List ℕ
 words FileTooLong = codes "a file has at most 16777216 bytes"
+words PieceTooLong = codes "a piece has at most 65536 bytes"
 words Unknown = codes "there is no such machine, day or path"
 words BadDay = codes "a day is damaged or incomplete"
+words DayIsThere = codes "there is a day of that number already"
 words MakesDay = codes "the machine already makes a day"
 words MakesNone = codes "the machine makes no day"
+words HasNumber = codes "the day has its number already, and is to be named or broken off"
+words HasNoNumber = codes "the day has no number yet, which is to be raised first"
 words NotAtThatPoint = codes "the sweeper is not at that point"
 words TooManyNames = codes "the lists have at most 262144 names"
 words LastNumber = codes "a day number is at most 4294967295"

@@ -10,12 +10,16 @@ use std::{cmp, fmt};
 pub enum Refusal {
     // 1: limits, and names that there are not
     FileTooLong,
+    PieceTooLong,
     Unknown,
-    // 2: a day that is damaged or incomplete
+    // 2: a day that is damaged or incomplete, or has the name that another is to have
     BadDay,
-    // 3: a machine that makes a day where it must make none, or the other way round
+    DayIsThere,
+    // 3: a machine that makes a day where it must make none, or the other way round; or that has raised its number already, or not yet
     MakesDay,
     MakesNone,
+    HasNumber,
+    HasNoNumber,
     // 4: the sweeper does something else
     NotAtThatPoint,
     // 5: the lists of names are full
@@ -33,9 +37,10 @@ impl Refusal {
         ensures { result ≡ number_of self }
     {
         match self {
-            Refusal::FileTooLong | Refusal::Unknown => Some(1),
-            Refusal::BadDay => Some(2),
-            Refusal::MakesDay | Refusal::MakesNone => Some(3),
+            Refusal::FileTooLong | Refusal::PieceTooLong | Refusal::Unknown => Some(1),
+            Refusal::BadDay | Refusal::DayIsThere => Some(2),
+            Refusal::MakesDay | Refusal::MakesNone | Refusal::HasNumber | Refusal::HasNoNumber =>
+                Some(3),
             Refusal::NotAtThatPoint => Some(4),
             Refusal::TooManyNames => Some(5),
             Refusal::LastNumber => Some(6),
@@ -63,10 +68,16 @@ impl Refusal {
     {
         match self {
             Refusal::FileTooLong => "a file has at most 16777216 bytes",
+            Refusal::PieceTooLong => "a piece has at most 65536 bytes",
             Refusal::Unknown => "there is no such machine, day or path",
             Refusal::BadDay => "a day is damaged or incomplete",
+            Refusal::DayIsThere => "there is a day of that number already",
             Refusal::MakesDay => "the machine already makes a day",
             Refusal::MakesNone => "the machine makes no day",
+            Refusal::HasNumber => {
+                "the day has its number already, and is to be named or broken off"
+            }
+            Refusal::HasNoNumber => "the day has no number yet, which is to be raised first",
             Refusal::NotAtThatPoint => "the sweeper is not at that point",
             Refusal::TooManyNames => "the lists have at most 262144 names",
             Refusal::LastNumber => "a day number is at most 4294967295",
