@@ -1,0 +1,3 @@
+pub mod Equality
+pub mod States
+pub mod Tables

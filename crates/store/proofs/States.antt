@@ -1,0 +1,199 @@
+-- What the store in memory holds after a change: under one name, in one list, of one day or of one machine.
+-- Assumes nothing.
+use Rattle.std.proofs.Common.{◌≡◌, ℕ, ◌∙◌, ◌+◌, ◌<◌, ◌≤◌, arith, Bool, true, false, cond, List, Some, None, Option, refl, sym, ap, length}
+use Rattle.std.specs.BTreeMap as tree
+use Rattle.std.specs.BTreeMap.{BTreeMap, is_at}
+use Rattle.std.specs.BTreeSet as sorted
+use Rattle.std.specs.BTreeSet.{BTreeSet}
+use Rattle.std.specs.Map.{update, lookup}
+use Rattle.std.specs.Prelude.{is_some, nat_eq, nat_le, unwrap_or, vec_items, Vec}
+use Rattle.std.specs.List.{list_any}
+use Rattle.std.specs.Ordering.{nat_cmp}
+use Rattle.std.proofs.lemmas.Bool.Decides.{nat_tests}
+use Rattle.cutting.specs.declared.refusal.Refusal.TheVariants.{DayIsThere, TooManyNames, Unknown}
+use Rattle.std.specs.declared.alloc.Global.{Global}
+use Rattle.std.specs.Option.{option_and_then, option_map}
+use Rattle.digest.specs.declared.value.Digest.{Digest}
+use Rattle.store.specs.declared.day.DayName.{DayName}
+use Rattle.store.specs.declared.listing.Listing.{Listing}
+use Rattle.store.specs.declared.memory.Copies.{Copies}
+use Rattle.store.specs.declared.memory.Memory.{Memory}
+use Rattle.store.specs.Effects.{effect, needs_memory, put_aside, put_back, with_aside, with_day, with_listing, with_place}
+use Rattle.store.specs.Requests.{Done, Enlist, LetGo, NameDay, PutAside, PutBack, Raise, Refused, ThrowAway, Told, Write}
+use Rattle.store.specs.Memories.{day_cmp, listing_cmp, name_cmp, state_of}
+use Rattle.store.proofs.Equality.{is_eq_nat, names_decide}
+use Rattle.store.specs.State.{State, most_names, same_day, same_listing, same_name}
+
+-- a choice that comes to the same
+cond_same : {A : Type 0} (b : Bool) (x y : A) → (b ≡ true → x ≡ y) → cond b x y ≡ y
+cond_same true x y h = h refl
+cond_same false x y h = refl
+
+cond_ap : {A B : Type 0} (f : A → B) (b : Bool) (x y : A) → f (cond b x y) ≡ cond b (f x) (f y)
+cond_ap f true x y = refl
+cond_ap f false x y = refl
+
+cond_again : {A : Type 0} (b : Bool) (x y z : A) → cond b x (cond b y z) ≡ cond b x z
+cond_again true x y z = refl
+cond_again false x y z = refl
+
+is_some_map : (o : Option (Vec Digest Global)) → is_some (option_map vec_items o) ≡ is_some o
+is_some_map None = refl
+is_some_map (Some x) = refl
+
+-- what is there already, put there again
+update_same : {A : Type 0} (f : Digest → Option A) (n : Digest) (w : Option A) → w ≡ f n → (q : Digest) → update same_name f n w q ≡ f q
+update_same f n w e q = cond_same (same_name n q) w (f q) (λ h. e ∙ ap f ((names_decide n q).0 h))
+
+same_place : (s : State) (n : Digest) (w : Option (List ℕ)) → w ≡ s.place n → with_place n w s ≡ s
+same_place s n w e = λ i. record s { place = λ q. update_same s.place n w e q i }
+
+same_aside : (s : State) (n : Digest) (w : Option (List ℕ)) → w ≡ s.aside n → with_aside n w s ≡ s
+same_aside s n w e = λ i. record s { aside = λ q. update_same s.aside n w e q i }
+
+-- what lies in its place, and aside, where a name has copies or none
+abbrev pub place_of : Option Copies → Option (List ℕ)
+place_of o = option_and_then (λ c. option_map vec_items c.place) o
+
+abbrev pub aside_of : Option Copies → Option (List ℕ)
+aside_of o = option_and_then (λ c. option_map vec_items c.aside) o
+
+-- the pieces of m became p: under one name there was `old` and is `new`, and else all is as it was
+pub record Change (m : Memory) (p : BTreeMap Digest Copies) (n : Digest) (old new : Option Copies) : Type 0 where
+  pub was : old ≡ tree.get name_cmp m.pieces n
+  pub is : (q : Digest) → tree.get name_cmp p q ≡ cond (same_name n q) new (tree.get name_cmp m.pieces q)
+
+-- what is written through a loan
+pub Change-lent : (m : Memory) (p : BTreeMap Digest Copies) (n : Digest) (c w : Copies)
+    → Some c ≡ tree.get name_cmp m.pieces n → tree.WritesThrough name_cmp (name_cmp n) m.pieces w p → Change m p n (Some c) (Some w)
+Change-lent m p n c w e h = record { was = e; is = (h.3 (sym (ap is_some e))).0 }
+
+-- nothing is lent
+pub Change-none : (m : Memory) (p : BTreeMap Digest Copies) (n : Digest)
+    → None ≡ tree.get name_cmp m.pieces n → p ≡ m.pieces → Change m p n None None
+Change-none m p n e h = record { was = e; is = λ q. ap (λ p. tree.get name_cmp p q) h ∙ sym (update_same (tree.get name_cmp m.pieces) n None e q) }
+
+-- one after the other
+pub Change-again : (m : Memory) (p r : BTreeMap Digest Copies) (n : Digest) (old new last : Option Copies)
+    → Change m p n old new → ((q : Digest) → tree.get name_cmp r q ≡ cond (same_name n q) last (tree.get name_cmp p q)) → Change m r n old last
+Change-again m p r n old new last h f = record { was = h.was; is = λ q. f q ∙ ap (cond (same_name n q) last) (h.is q) ∙ cond_again (same_name n q) last new (tree.get name_cmp m.pieces q) }
+
+module _ {m : Memory} {p : BTreeMap Digest Copies} {n : Digest} {old new : Option Copies} where
+  -- what the store holds then
+  after : Change m p n old new → state_of (record m { pieces = p }) ≡ with_aside n (aside_of new) (with_place n (place_of new) (state_of m))
+  after h = λ i. record (state_of m) {
+    place = λ q. (ap place_of (h.is q) ∙ cond_ap place_of (same_name n q) new (tree.get name_cmp m.pieces q)) i;
+    aside = λ q. (ap aside_of (h.is q) ∙ cond_ap aside_of (same_name n q) new (tree.get name_cmp m.pieces q)) i;
+  }
+
+  after_with : Change m p n old new → (place aside : Option (List ℕ)) → place ≡ place_of new → aside ≡ aside_of new → with_aside n aside (with_place n place (state_of m)) ≡ state_of (record m { pieces = p })
+  after_with h place aside e f = (λ i. with_aside n (f i) (with_place n (e i) (state_of m))) ∙ sym (after h)
+
+  -- where no more than one of the two changes
+  after_place : Change m p n old new → (place : Option (List ℕ)) → place ≡ place_of new → aside_of old ≡ aside_of new → with_place n place (state_of m) ≡ state_of (record m { pieces = p })
+  after_place h place e f = sym (same_aside (with_place n place (state_of m)) n (aside_of old) (ap aside_of h.was)) ∙ after_with h place (aside_of old) e f
+
+  after_aside : Change m p n old new → (aside : Option (List ℕ)) → aside ≡ aside_of new → place_of old ≡ place_of new → with_aside n aside (state_of m) ≡ state_of (record m { pieces = p })
+  after_aside h aside e f = ap (with_aside n aside) (sym (same_place (state_of m) n (place_of old) (ap place_of h.was))) ∙ after_with h (place_of old) aside f e
+
+  after_nothing : Change m p n old new → place_of old ≡ place_of new → aside_of old ≡ aside_of new → state_of m ≡ state_of (record m { pieces = p })
+  after_nothing h e f = sym (same_place (state_of m) n (place_of old) (ap place_of h.was)) ∙ after_place h (place_of old) e f
+
+  -- and so what the requests have done
+  pub has_written : Change m p n old new → (b : List ℕ) → Some b ≡ place_of new → aside_of old ≡ aside_of new → effect (state_of m) (Write n b) ≡ (Done, state_of (record m { pieces = p }))
+  has_written h b e f = λ i. (Done, after_place h (Some b) e f i)
+
+  pub has_put_aside : Change m p n old new → (b : List ℕ) → place_of old ≡ Some b → None ≡ place_of new → Some b ≡ aside_of new → effect (state_of m) (PutAside n) ≡ (Told true, state_of (record m { pieces = p }))
+  has_put_aside h b w e f = ap (λ o. put_aside n o (state_of m)) (sym (ap place_of h.was) ∙ w) ∙ (λ i. (Told true, after_with h None (Some b) e f i))
+
+  pub had_none_to_put_aside : Change m p n old new → place_of old ≡ None → None ≡ place_of new → aside_of old ≡ aside_of new → effect (state_of m) (PutAside n) ≡ (Told false, state_of (record m { pieces = p }))
+  had_none_to_put_aside h w e f = ap (λ o. put_aside n o (state_of m)) (sym (ap place_of h.was) ∙ w) ∙ (λ i. (Told false, after_nothing h (w ∙ e) f i))
+
+  pub has_put_back : Change m p n old new → (b : List ℕ) → aside_of old ≡ Some b → Some b ≡ place_of new → None ≡ aside_of new → effect (state_of m) (PutBack n) ≡ (Told true, state_of (record m { pieces = p }))
+  has_put_back h b w e f = ap (λ o. put_back n o (state_of m)) (sym (ap aside_of h.was) ∙ w) ∙ (λ i. (Told true, after_with h (Some b) None e f i))
+
+  pub had_none_to_put_back : Change m p n old new → aside_of old ≡ None → place_of old ≡ place_of new → None ≡ aside_of new → effect (state_of m) (PutBack n) ≡ (Told false, state_of (record m { pieces = p }))
+  had_none_to_put_back h w e f = ap (λ o. put_back n o (state_of m)) (sym (ap aside_of h.was) ∙ w) ∙ (λ i. (Told false, after_nothing h e (w ∙ f) i))
+
+  pub has_thrown_away : Change m p n old new → (r : Bool) → is_some (aside_of old) ≡ r → place_of old ≡ place_of new → None ≡ aside_of new → effect (state_of m) (ThrowAway n) ≡ (Told r, state_of (record m { pieces = p }))
+  has_thrown_away h r w e f = λ i. (Told ((sym (ap (λ o. is_some (aside_of o)) h.was) ∙ w) i), after_aside h None f e i)
+
+-- with the same entries the store holds the same
+pub same_pieces : (m : Memory) (p : BTreeMap Digest Copies) → p.entries ≡ m.pieces.entries → state_of (record m { pieces = p }) ≡ state_of m
+same_pieces m p e = λ i. record (state_of m) {
+  place = λ q. place_of (lookup (is_at (name_cmp q)) (e i));
+  aside = λ q. aside_of (lookup (is_at (name_cmp q)) (e i));
+}
+
+-- the lists, after a name more is on one
+module _ (m : Memory) (ls : BTreeSet Listing) where
+  pub same_lists : ls.keys ≡ m.listed.keys → state_of (record m { listed = ls }) ≡ state_of m
+  same_lists e = λ i. record (state_of m) { listed = λ l. list_any (is_at (listing_cmp l)) (e i); names = length (e i) }
+
+  pub has_enlisted : (l : Listing) → sorted.contains listing_cmp m.listed l ≡ false → length m.listed.keys < most_names
+      → ((q : Listing) → sorted.contains listing_cmp ls q ≡ cond (same_listing l q) true (sorted.contains listing_cmp m.listed q)) → length ls.keys ≡ length m.listed.keys + 1
+      → effect (state_of m) (Enlist l) ≡ (Done, state_of (record m { listed = ls }))
+  has_enlisted l new room h n =
+      let s : State = state_of m in
+      let few : nat_le most_names s.names ≡ false = grind (arith, nat_tests) in
+      λ i. cond (new i) (Done, s) (cond (few i) (Refused TooManyNames, s) (Done, record s { listed = λ q. sym (h q) i; names = sym n i }))
+
+pub is_enlisted : (s : State) (l : Listing) → s.listed l ≡ true → effect s (Enlist l) ≡ (Done, s)
+is_enlisted s l old = λ i. cond (old i) (Done, s) (cond (nat_le most_names s.names) (Refused TooManyNames, s) (Done, with_listing l s))
+
+pub has_no_room : (s : State) (l : Listing) → s.listed l ≡ false → most_names ≤ s.names → effect s (Enlist l) ≡ (Refused TooManyNames, s)
+has_no_room s l new h =
+    let many : nat_le most_names s.names ≡ true = grind (arith, nat_tests) in
+    λ i. cond (new i) (Done, s) (cond (many i) (Refused TooManyNames, s) (Done, with_listing l s))
+
+-- the days, after one is named or let go
+module _ (m : Memory) (ds : BTreeMap DayName (Vec Digest Global)) (d : DayName) where
+  pub same_days : ds.entries ≡ m.days.entries → state_of (record m { days = ds }) ≡ state_of m
+  same_days e = λ i. record (state_of m) { days = λ q. option_map vec_items (lookup (is_at (day_cmp q)) (e i)) }
+
+  after_day : (w : Option (Vec Digest Global)) → ((q : DayName) → tree.get day_cmp ds q ≡ cond (same_day d q) w (tree.get day_cmp m.days q))
+      → with_day d (option_map vec_items w) (state_of m) ≡ state_of (record m { days = ds })
+  after_day w h = λ i. record (state_of m) { days = λ q. sym (ap (option_map vec_items) (h q) ∙ cond_ap (option_map vec_items) (same_day d q) w (tree.get day_cmp m.days q)) i }
+
+  pub has_named : (v : Vec Digest Global) (ps : List Digest) → v.items ≡ ps → is_some (tree.get day_cmp m.days d) ≡ false
+      → ((q : DayName) → tree.get day_cmp ds q ≡ cond (same_day d q) (Some v) (tree.get day_cmp m.days q))
+      → effect (state_of m) (NameDay d ps) ≡ (Done, state_of (record m { days = ds }))
+  has_named v ps e new h =
+      let s : State = state_of m in
+      (λ i. cond ((is_some_map (tree.get day_cmp m.days d) ∙ new) i) (Refused DayIsThere, s) (Done, with_day d (Some (sym e i)) s)) ∙ (λ i. (Done, after_day (Some v) h i))
+
+  pub has_let_go : is_some (tree.get day_cmp m.days d) ≡ true → ((q : DayName) → tree.get day_cmp ds q ≡ cond (same_day d q) None (tree.get day_cmp m.days q))
+      → effect (state_of m) (LetGo d) ≡ (Done, state_of (record m { days = ds }))
+  has_let_go old h =
+      let s : State = state_of m in
+      (λ i. cond ((is_some_map (tree.get day_cmp m.days d) ∙ old) i) (Done, with_day d None s) (Refused Unknown, s)) ∙ (λ i. (Done, after_day None h i))
+
+  pub knows_no_day : is_some (tree.get day_cmp m.days d) ≡ false → ds.entries ≡ m.days.entries → effect (state_of m) (LetGo d) ≡ (Refused Unknown, state_of (record m { days = ds }))
+  knows_no_day none e =
+      let s : State = state_of m in
+      (λ i. cond ((is_some_map (tree.get day_cmp m.days d) ∙ none) i) (Done, with_day d None s) (Refused Unknown, s)) ∙ (λ i. (Refused Unknown, sym (same_days e) i))
+
+pub has_day : (m : Memory) (d : DayName) (ps : List Digest) → is_some (tree.get day_cmp m.days d) ≡ true → effect (state_of m) (NameDay d ps) ≡ (Refused DayIsThere, state_of m)
+has_day m d ps old =
+    let s : State = state_of m in
+    λ i. cond ((is_some_map (tree.get day_cmp m.days d) ∙ old) i) (Refused DayIsThere, s) (Done, with_day d (Some ps) s)
+
+-- the highest numbers, after one is set
+module _ (m : Memory) (hs : BTreeMap ℕ ℕ) where
+  pub same_highest : hs.entries ≡ m.highest.entries → state_of (record m { highest = hs }) ≡ state_of m
+  same_highest e = λ i. record (state_of m) { highest = λ q. unwrap_or (lookup (is_at (nat_cmp q)) (e i)) 0 }
+
+  pub has_raised : (k n : ℕ) → ((q : ℕ) → tree.get nat_cmp hs q ≡ cond (is_at (nat_cmp k) q) (Some n) (tree.get nat_cmp m.highest q))
+      → effect (state_of m) (Raise k n) ≡ (Done, state_of (record m { highest = hs }))
+  has_raised k n h =
+      let at : (q : ℕ) → unwrap_or (tree.get nat_cmp hs q) 0 ≡ cond (nat_eq k q) n (unwrap_or (tree.get nat_cmp m.highest q) 0) = λ q. ap (λ o. unwrap_or o 0) (h q) ∙ cond_ap (λ o. unwrap_or o 0) (is_at (nat_cmp k) q) (Some n) (tree.get nat_cmp m.highest q) ∙ ap (λ b. cond b n (unwrap_or (tree.get nat_cmp m.highest q) 0)) (is_eq_nat k q) in
+      λ i. (Done, record (state_of m) { highest = λ q. sym (at q) i })
+
+-- where memory may be wanting
+pub wants_room : (s : State) (l : Listing) → s.listed l ≡ false → s.names < most_names → needs_memory s (Enlist l) ≡ true
+wants_room s l new room =
+    let few : nat_le most_names s.names ≡ false = grind (arith, nat_tests) in
+    λ i. cond (new i) false (cond (few i) false true)
+
+pub wants_day : (m : Memory) (d : DayName) (ps : List Digest) → is_some (tree.get day_cmp m.days d) ≡ false → needs_memory (state_of m) (NameDay d ps) ≡ true
+wants_day m d ps new = λ i. cond ((is_some_map (tree.get day_cmp m.days d) ∙ new) i) false true

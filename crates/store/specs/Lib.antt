@@ -1,0 +1,7 @@
+pub mod Contents
+pub mod Effects
+pub mod Lines
+pub mod Memories
+pub mod Requests
+pub mod State
+pub mod Texts
