@@ -1,0 +1,5 @@
+pub mod Cases
+pub mod Exact
+pub mod Kept
+pub mod Moves
+pub mod Within
