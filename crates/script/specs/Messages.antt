@@ -7,6 +7,7 @@ use Rattle.script.specs.declared.message.Message.{Message}
 use Rattle.script.specs.declared.message.Message.TheVariants.{Given, Repeated, Random}
 use Rattle.script.specs.Generators.{generated}
 use Rattle.script.specs.Lines.{first, rest}
+use Rattle.script.specs.Numbers.{most_number}
 use Rattle.script.specs.Readings.{HexRead, HexBlamed, ByteRead, NumberRead}
 
 -- the bytes that a message stands for
@@ -36,6 +37,11 @@ pub record OneWord (l : List ℕ) : Type 0 where
   pub no_random : first l ≡ random → ⊥
   pub alone : second l ≡ []
 
+-- a word, and no more
+pub record SoleWord (l : List ℕ) : Type 0 where
+  pub there : 0 < length (first l)
+  pub alone : second l ≡ []
+
 -- two words
 pub record TwoWords (l : List ℕ) : Type 0 where
   pub one : 0 < length (first l)
@@ -62,7 +68,7 @@ TwoRead One Other l (Err f) = ((f ≡ WrongForm) × (TwoWords l → ⊥)) ⊎ (T
 
 -- what is wrong with the words of one of those forms
 abbrev pub WordsBlamed : List ℕ → Fault → Type 0
-WordsBlamed l f = (OneWord l × HexBlamed (first l) f) ⊎ ((Form repeat l × TwoBlamed ByteRead NumberRead (rest l) f) ⊎ (Form random l × TwoBlamed NumberRead NumberRead (rest l) f))
+WordsBlamed l f = (OneWord l × HexBlamed (first l) f) ⊎ ((Form repeat l × TwoBlamed ByteRead (NumberRead most_number) (rest l) f) ⊎ (Form random l × TwoBlamed (NumberRead most_number) (NumberRead most_number) (rest l) f))
 
 -- why the words after a step's name stand for no bytes
 abbrev pub MessageBlamed : List ℕ → Fault → Type 0
@@ -71,6 +77,6 @@ MessageBlamed l f = ((f ≡ WrongForm) × NoForm l) ⊎ WordsBlamed l f
 -- what the words after a step's name stand for: no bytes, HEX, repeat BYTE COUNT, or random SEED COUNT
 abbrev pub MessageRead : List ℕ → Result Message Fault → Type 0
 MessageRead l (Ok (Given v)) = ((first l ≡ []) × (vec_items v ≡ [])) ⊎ (OneWord l × HexRead (first l) (Ok v))
-MessageRead l (Ok (Repeated b n)) = Form repeat l × ByteRead (second l) (Ok b) × NumberRead (third l) (Ok n)
-MessageRead l (Ok (Random s n)) = Form random l × NumberRead (second l) (Ok s) × NumberRead (third l) (Ok n)
+MessageRead l (Ok (Repeated b n)) = Form repeat l × ByteRead (second l) (Ok b) × NumberRead most_number (third l) (Ok n)
+MessageRead l (Ok (Random s n)) = Form random l × NumberRead most_number (second l) (Ok s) × NumberRead most_number (third l) (Ok n)
 MessageRead l (Err f) = MessageBlamed l f

@@ -32,3 +32,7 @@ decimal_value w = fold (λ n c. n * 10 + (c - 48)) 0 w
 -- no seed and no count is larger
 abbrev pub most_number : ℕ
 most_number = 1073741824
+
+-- nor is the number of a machine or of a day
+abbrev pub most_in_store : ℕ
+most_in_store = 4294967295

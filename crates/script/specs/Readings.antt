@@ -5,7 +5,7 @@ use Rattle.std.specs.Prelude.{◌≡◌, ℕ, ◌+◌, ◌%◌, ◌<◌, ◌≤�
 use Rattle.std.specs.declared.alloc.Global.{Global}
 use Rattle.script.specs.declared.fault.Fault.{Fault}
 use Rattle.script.specs.declared.fault.Fault.TheVariants.{NoMemory, NoHexDigit, OddDigits, NoByte, NoNumber}
-use Rattle.script.specs.Numbers.{hex_value, HexDigits, paired, DecimalDigits, decimal_value, most_number}
+use Rattle.script.specs.Numbers.{hex_value, HexDigits, paired, DecimalDigits, decimal_value}
 use Rattle.script.specs.Quotes.{quotation}
 
 -- c, at this place of a word, is not a hexadecimal digit; places are counted from 1
@@ -48,16 +48,16 @@ ByteRead w (Ok b) = ByteValue w (Some b)
 ByteRead w (Err f) = ByteBlamed w f
 
 -- the number that a word is, if it is one and not too large
-abbrev pub NumberValue : List ℕ → Option ℕ → Type 0
-NumberValue w None = DecimalDigits w (length w) → decimal_value w ≤ most_number → ⊥
-NumberValue w (Some n) = DecimalDigits w (length w) × (n ≡ decimal_value w) × (n ≤ most_number)
+abbrev pub NumberValue : ℕ → List ℕ → Option ℕ → Type 0
+NumberValue most w None = DecimalDigits w (length w) → decimal_value w ≤ most → ⊥
+NumberValue most w (Some n) = DecimalDigits w (length w) × (n ≡ decimal_value w) × (n ≤ most)
 
 -- a word is not a number, or too large a one
-abbrev pub NumberBlamed : List ℕ → Fault → Type 0
-NumberBlamed w NoMemory = NumberValue w None
-NumberBlamed w (NoNumber t) = NumberValue w None × (string_bytes t ≡ quotation w)
-NumberBlamed w other = ⊥
+abbrev pub NumberBlamed : ℕ → List ℕ → Fault → Type 0
+NumberBlamed most w NoMemory = NumberValue most w None
+NumberBlamed most w (NoNumber t m) = NumberValue most w None × (string_bytes t ≡ quotation w) × (m ≡ most)
+NumberBlamed most w other = ⊥
 
-abbrev pub NumberRead : List ℕ → Result ℕ Fault → Type 0
-NumberRead w (Ok n) = NumberValue w (Some n)
-NumberRead w (Err f) = NumberBlamed w f
+abbrev pub NumberRead : ℕ → List ℕ → Result ℕ Fault → Type 0
+NumberRead most w (Ok n) = NumberValue most w (Some n)
+NumberRead most w (Err f) = NumberBlamed most w f

@@ -14,6 +14,8 @@ pub enum Fault {
     NoMemory,
     // no step has this name
     UnknownStep(String),
+    // not the words of this step, whose line is to be written so
+    WrongWords(&'static str),
     // none of the forms of bytes
     WrongForm,
     // this is not a hexadecimal digit, at this place
@@ -22,8 +24,8 @@ pub enum Fault {
     OddDigits(usize),
     // this is not a byte of two hexadecimal digits
     NoByte(String),
-    // this is not a number, or too large
-    NoNumber(String),
+    // this is not a number, or larger than this
+    NoNumber(String, u64),
 }
 
 // Two impls, since one for every error that turns into an AllocError would overlap with std's from a type to itself.
@@ -51,6 +53,7 @@ impl fmt::Display for Fault {
             Fault::TooLong => write!(f, "longer than 67108864 bytes"),
             Fault::NoMemory => write!(f, "there is not enough memory"),
             Fault::UnknownStep(word) => write!(f, "no step is called {word}"),
+            Fault::WrongWords(line) => write!(f, "write the line as '{line}'"),
             Fault::WrongForm => write!(
                 f,
                 "write bytes as HEX, as 'repeat BYTE COUNT' or as 'random SEED COUNT'"
@@ -60,7 +63,7 @@ impl fmt::Display for Fault {
             }
             Fault::OddDigits(count) => write!(f, "an odd number of hexadecimal digits, {count}"),
             Fault::NoByte(word) => write!(f, "{word} is not a byte of two hexadecimal digits"),
-            Fault::NoNumber(word) => write!(f, "{word} is not a number from 0 to 1073741824"),
+            Fault::NoNumber(word, most) => write!(f, "{word} is not a number from 0 to {most}"),
         }
     }
 }

@@ -13,5 +13,6 @@ mod tests;
 
 pub use fault::Fault;
 pub use message::Message;
+pub use numerals::FromWord;
 pub use quote::quoted;
-pub use scan::{is_word, next_word};
+pub use scan::{is_word, next_word, one_word, two_words};

@@ -1,7 +1,7 @@
 // Bytes in hexadecimal, and numbers in decimal.
-ghost use Rattle.std.specs.Prelude.{◌≡◌, ℕ, ◌<◌, List, length, IfSome, Result};
+ghost use Rattle.std.specs.Prelude.{◌≡◌, ℕ, ◌^◌, ◌<◌, List, length, IfSome, Result};
 ghost use Rattle.script.specs.declared.fault.Fault.{Fault};
-ghost use Rattle.script.specs.Numbers.{hex_value};
+ghost use Rattle.script.specs.Numbers.{hex_value, most_in_store, most_number};
 ghost use Rattle.script.specs.Readings.{DigitRead, HexRead, ByteValue, ByteRead, NumberValue, NumberRead};
 
 use crate::fault::Fault;
@@ -18,6 +18,9 @@ pub trait FromWord: Sized + Drop {
 
 // No seed and no count is larger.
 const MOST_NUMBER: u64 = 1_073_741_824;
+
+// Nor is the number of a machine or of a day.
+const MOST_IN_STORE: u64 = 4_294_967_295;
 
 // The number that a hexadecimal digit stands for; capitals are allowed.
 fn digit_value(c: u8) -> Option<u8>
@@ -74,25 +77,43 @@ impl FromWord for u8 {
 }
 
 // The number that decimal digits spell, where it is one and not too large. By hand, since `parse` takes a plus sign, too.
-fn number_value(word: &[u8]) -> Option<u64>
-    ensures { NumberValue word.now result }
+fn number_value(word: &[u8], most: u64) -> Option<u64>
+    requires { most < 2 ^ 32 }
+    ensures { NumberValue most word.now result }
 {
     let mut number = 0;
     for c in word {
         let digit = (*c as char).to_digit(10)?;
         number = number * 10 + u64::from(digit);
-        if number > MOST_NUMBER {
+        if number > most {
             return None;
         }
     }
     Some(number)
 }
 
+// The number that a word is, or that it is none.
+fn read_number(heap: Global, word: &[u8], most: u64) -> Result<u64, Fault>
+    requires { most < 2 ^ 32 }
+    ensures { NumberRead most word.now result }
+{
+    number_value(word, most).try_ok_or_else(|| Ok(Fault::NoNumber(quoted(heap, word)?, most)))
+}
+
 // A seed or a count.
 impl FromWord for u64 {
-    ghost reads = { NumberRead };
+    ghost reads = { NumberRead most_number };
 
     fn from_word(heap: Global, word: &[u8]) -> Result<u64, Fault> {
-        number_value(word).try_ok_or_else(|| Ok(Fault::NoNumber(quoted(heap, word)?)))
+        read_number(heap, word, MOST_NUMBER)
+    }
+}
+
+// The number of a machine or of a day.
+impl FromWord for u32 {
+    ghost reads = { NumberRead most_in_store };
+
+    fn from_word(heap: Global, word: &[u8]) -> Result<u32, Fault> {
+        Ok(read_number(heap, word, MOST_IN_STORE)? as u32)
     }
 }

@@ -1,7 +1,7 @@
 // The words of a line: runs of bytes that are neither space nor tab.
 ghost use Rattle.std.specs.Prelude.{◌≡◌, ◌<◌, [], length, Decides, MatchOption};
 ghost use Rattle.script.specs.Lines.{blank, first, rest};
-ghost use Rattle.script.specs.Messages.{second, TwoWords};
+ghost use Rattle.script.specs.Messages.{second, SoleWord, TwoWords};
 
 fn is_blank(c: u8) -> bool
     ensures { result ≡ blank c }
@@ -17,6 +17,17 @@ pub fn next_word(line: &[u8]) -> Option<(&[u8], &[u8])>
     let from = &line[start..];
     let end = from.iter().position(|c| is_blank(*c)).unwrap_or(from.len());
     Some(from.split_at(end))
+}
+
+// The word of a line that has just one.
+pub fn one_word(line: &[u8]) -> Option<&[u8]>
+    ensures { MatchOption result (SoleWord line.now → ⊥) (λ w. SoleWord line.now × (w.now ≡ first line.now)) }
+{
+    let (one, others) = next_word(line)?;
+    if next_word(others).is_some() {
+        return None;
+    }
+    Some(one)
 }
 
 // The words of a line that has just two.
