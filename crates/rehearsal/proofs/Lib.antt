@@ -1,1 +1,3 @@
 mod Lists
+mod Machines
+pub mod InSystem

@@ -1,6 +1,12 @@
+pub mod Acts
 pub mod Answers
 pub mod Listings
+pub mod Names
+pub mod Numbering
 pub mod Pendings
+pub mod Shows
 pub mod Steps
+pub mod Systems
 pub mod Texts
 pub mod Unkepts
+pub mod Worlds

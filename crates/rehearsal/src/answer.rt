@@ -2,15 +2,24 @@
 ghost use Rattle.std.specs.Prelude.{Some};
 ghost use Rattle.rehearsal.specs.Texts.{answer_text};
 
-use crate::listing::{Listed, write_lines};
+use crate::listing::Listed;
+use crate::shown::Shown;
+use days::Done;
 use digest::Digest;
 use std::fmt;
+use store::write_each;
 
 #[derive(Drop)]
 pub enum Answer {
     Digest(Digest),
     // the pieces of a file
     Pieces(Vec<Listed>),
+    // what a machine has done
+    Done(Done),
+    // a day is let go
+    LetGo,
+    // what is where
+    Shown(Shown),
 }
 
 impl fmt::Display for Answer {
@@ -21,8 +30,11 @@ impl fmt::Display for Answer {
             Answer::Digest(digest) => write!(f, "{digest}"),
             Answer::Pieces(list) => {
                 write!(f, "pieces {}", list.len())?;
-                write_lines(list, f)
+                write_each("\n", list, "", f)
             }
+            Answer::Done(done) => write!(f, "{done}"),
+            Answer::LetGo => write!(f, "let go"),
+            Answer::Shown(shown) => write!(f, "{shown}"),
         }
     }
 }

@@ -2,22 +2,29 @@
 #![tactic(auto)]
 
 mod answer;
+mod effect;
 mod line;
 mod listing;
+mod name;
 mod pending;
+mod shown;
 mod step;
 mod stream;
 #[cfg(test)]
 mod tests;
 mod unkept;
 mod unplayed;
+mod world;
 
 pub use answer::Answer;
 pub use cutting::Refusal;
 pub use line::{LineAnswer, LineFault, answer_line};
-pub use listing::{Listed, list_pieces, write_lines};
+pub use listing::{Listed, list_pieces};
+pub use name::StepName;
 pub use pending::{Answered, Pending};
 pub use script::{Fault, Message};
-pub use step::Step;
+pub use shown::{Shown, ShownDay, ShownMachine};
+pub use step::{Act, Step};
 pub use stream::play;
 pub use unplayed::Unplayed;
+pub use world::World;

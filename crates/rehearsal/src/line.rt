@@ -1,11 +1,14 @@
 // A line of the script, and what is written for it.
-ghost use Rattle.std.specs.Prelude.{Some};
+ghost use Rattle.std.specs.Prelude.{Some, IfErr};
 ghost use Rattle.rehearsal.specs.Answers.{Answers, LinePlayed};
+ghost use Rattle.days.specs.System.{Within};
+ghost use Rattle.rehearsal.specs.Systems.{LeavesAll, system_of};
 ghost use Rattle.rehearsal.specs.Texts.{line_fault_text};
 
 use crate::answer::Answer;
 use crate::step::Step;
 use crate::unplayed::Unplayed;
+use crate::world::World;
 use std::alloc::Global;
 use std::fmt;
 
@@ -28,18 +31,21 @@ impl fmt::Display for LineFault {
 pub type LineAnswer = Result<Option<Answer>, LineFault>;
 
 // What a line answers, or why it is not played.
-fn play_line(heap: Global, line: &[u8]) -> Result<Option<Answer>, Unplayed>
-    ensures { LinePlayed line.now result }
+fn play_line(heap: Global, world: &mut World, line: &[u8]) -> Result<Option<Answer>, Unplayed>
+    ensures { LinePlayed line.now world.old result world.new }
 {
     match Step::read(heap, line)? {
-        Some(step) => Ok(Some(step.play(heap)?)),
+        Some(step) => Ok(Some(step.play(heap, world)?)),
         None => Ok(None),
     }
 }
 
-// The answer to a line, which is given without its end.
-pub fn answer_line(heap: Global, number: u64, line: &[u8]) -> LineAnswer
-    ensures { Answers number line.now result }
+// The answer to a line, which is given without its end. What it does to the world is a step of the system of machines, or two, or none.
+#[tactic(auto, using(crate::proofs::InSystem::line_leaves_all, crate::proofs::InSystem::line_within))]
+pub fn answer_line(heap: Global, world: &mut World, number: u64, line: &[u8]) -> LineAnswer
+    ensures answer { Answers number line.now world.old result world.new }
+    ensures unchanged { IfErr result (λ e. LeavesAll e.why world.old world.new) }
+    ensures steps { Within 2 (system_of world.old) (system_of world.new) }
 {
-    play_line(heap, line).map_err(|why| LineFault { number, why })
+    play_line(heap, world, line).map_err(|why| LineFault { number, why })
 }

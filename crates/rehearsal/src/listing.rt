@@ -1,7 +1,6 @@
 // The pieces of a file, as an answer lists them.
 ghost use Rattle.std.specs.Prelude.{Some};
-ghost use Rattle.std.specs.Fmt.{WritesOnOk};
-ghost use Rattle.rehearsal.specs.Listings.{Lists, listed_text, lines_text};
+ghost use Rattle.rehearsal.specs.Listings.{Lists, listed_text};
 
 use cutting::{Refusal, cut};
 use digest::{Digest, sha256};
@@ -37,14 +36,4 @@ pub fn list_pieces(heap: Global, file: &[u8]) -> Result<Vec<Listed>, Refusal>
         })?;
     }
     Ok(list)
-}
-
-// Writes a line for each piece, after what was written before.
-pub fn write_lines<W: fmt::Write>(list: &[Listed], f: &mut fmt::Formatter<W>) -> fmt::Result
-    ensures { WritesOnOk W.Write.write_str_gives f.old result (lines_text list.now) f.new }
-{
-    for piece in list {
-        write!(f, "\n{piece}")?;
-    }
-    Ok(())
 }

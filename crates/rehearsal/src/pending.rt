@@ -7,6 +7,7 @@ ghost use Rattle.rehearsal.specs.Unkepts.{IsUnkept};
 use crate::line::{LineAnswer, LineFault, answer_line};
 use crate::unkept::Unkept;
 use crate::unplayed::Unplayed;
+use crate::world::World;
 use script::Fault;
 use std::alloc::Global;
 
@@ -78,15 +79,15 @@ impl Pending {
     }
 
     // Ends the line, answers it, and begins the next one, in the same memory where this one was kept.
-    pub fn end(&mut self) -> LineAnswer
+    pub fn end(&mut self, world: &mut World) -> LineAnswer
         ensures ended { self.new.ended ≡ (self.old.ended + 1) % 2 ^ 64 }
-        ensures answer { (l : List ℕ) → Holds self.old l → LineAnswers self.new.ended l result }
+        ensures answer { (l : List ℕ) → Holds self.old l → LineAnswers self.new.ended l world.old result world.new }
         ensures line { Holds self.new [] }
     {
         let number = self.ended.wrapping_add(1);
         let answer = match &mut self.line {
             Ok(line) => {
-                let answer = answer_line(self.heap, number, without_return(line));
+                let answer = answer_line(self.heap, world, number, without_return(line));
                 line.clear();
                 answer
             }
@@ -101,9 +102,9 @@ impl Pending {
     }
 
     // Takes in a part of the script up to its first newline, and with it. None where no line ends in the part, which is taken in whole then.
-    pub fn take_in<'a>(&mut self, part: &'a [u8]) -> Option<Answered<'a>>
+    pub fn take_in<'a>(&mut self, world: &mut World, part: &'a [u8]) -> Option<Answered<'a>>
         ensures shorter { IfSome result (λ a. length a.after.now < length part.now) }
-        ensures taken { (l : List ℕ) → Holds self.old l → TakesIn l self.old.ended part.now result self.new }
+        ensures taken { (l : List ℕ) → Holds self.old l → TakesIn l self.old.ended part.now world.old result self.new world.new }
     {
         let Some(end) = part.iter().position(|b| *b == b'\n') else {
             self.extend(part);
@@ -111,7 +112,7 @@ impl Pending {
         };
         self.extend(&part[..end]);
         Some(Answered {
-            answer: self.end(),
+            answer: self.end(world),
             after: &part[end + 1..],
         })
     }

@@ -1,13 +1,9 @@
 // A line of the script as a step to play.
-ghost use Rattle.rehearsal.specs.Steps.{StepRead};
-ghost use Rattle.script.specs.Messages.{bytes_of};
-ghost use Rattle.rehearsal.specs.Answers.{Plays};
-ghost use Rattle.rehearsal.specs.Listings.{Lists};
+ghost use Rattle.std.specs.Prelude.{◌≡◌};
+ghost use Rattle.rehearsal.specs.Steps.{Goes, NoWords, OfMachine, ReadAs, SeesWords, StepRead};
 
-use crate::answer::Answer;
-use crate::listing::{Listed, list_pieces};
-use cutting::{Refusal, check_length};
-use script::{Fault, Message, is_word, next_word, quoted};
+use crate::name::StepName;
+use script::{Fault, FromWord, Message, next_word, one_word, quoted, two_words};
 use std::alloc::Global;
 
 #[derive(Drop)]
@@ -16,15 +12,65 @@ pub enum Step {
     Digest(Message),
     // the pieces of a file of these bytes
     Cut(Message),
+    // a machine does something
+    Machine(u32, Act),
+    // a day of a machine is let go
+    LetGo(u32, u32),
+    // what is where
+    Show,
 }
 
-// The pieces of a file of these bytes. A file that is too long is refused before they are all in memory, unless they already are.
-fn cut_message(heap: Global, message: Message) -> Result<Vec<Listed>, Refusal>
-    ensures { Lists (bytes_of message) result }
+// What a machine does.
+#[derive(Drop)]
+pub enum Act {
+    Begin,
+    // it sees to the piece of these bytes
+    See(Message),
+    Raise,
+    Name,
+    Break,
+}
+
+// The machine that a step has behind its name, and nothing more.
+fn machine(heap: Global, name: StepName, words: &[u8]) -> Result<u32, Fault>
+    ensures { OfMachine name words.now result }
 {
-    check_length(message.length())?;
-    let file = message.into_bytes(heap)?;
-    list_pieces(heap, &file)
+    let Some(word) = one_word(words) else {
+        return Err(name.wrong_words());
+    };
+    u32::from_word(heap, word)
+}
+
+// The machine and the bytes that `see` has.
+fn see_words(heap: Global, words: &[u8]) -> Result<(u32, Message), Fault>
+    ensures { SeesWords words.now result }
+{
+    let Some((word, others)) = next_word(words) else {
+        return Err(StepName::See.wrong_words());
+    };
+    let machine = u32::from_word(heap, word)?;
+    Ok((machine, Message::read(heap, others)?))
+}
+
+// The machine and the number that `go` has.
+fn go_words(heap: Global, words: &[u8]) -> Result<(u32, u32), Fault>
+    ensures { Goes words.now result }
+{
+    let Some((machine, number)) = two_words(words) else {
+        return Err(StepName::Go.wrong_words());
+    };
+    let machine = u32::from_word(heap, machine)?;
+    Ok((machine, u32::from_word(heap, number)?))
+}
+
+// No words, as `show` has.
+fn no_words(words: &[u8]) -> Result<(), Fault>
+    ensures { NoWords words.now result }
+{
+    if next_word(words).is_some() {
+        return Err(StepName::Show.wrong_words());
+    }
+    Ok(())
 }
 
 impl Step {
@@ -32,28 +78,41 @@ impl Step {
     pub fn read(heap: Global, line: &[u8]) -> Result<Option<Step>, Fault>
         ensures { StepRead line.now result }
     {
-        let Some((name, others)) = next_word(line) else {
+        let Some((word, others)) = next_word(line) else {
             return Ok(None);
         };
-        if name[0] == b'#' {
+        if word[0] == b'#' {
             return Ok(None);
         }
-        if is_word(name, b"digest") {
-            return Ok(Some(Step::Digest(Message::read(heap, others)?)));
-        }
-        if is_word(name, b"cut") {
-            return Ok(Some(Step::Cut(Message::read(heap, others)?)));
-        }
-        Err(Fault::UnknownStep(quoted(heap, name)?))
+        let Some(name) = StepName::called(word) else {
+            return Err(Fault::UnknownStep(quoted(heap, word)?));
+        };
+        Ok(Some(Step::read_as(heap, name, others)?))
     }
 
-    // A match, and no closure or dyn value, since the contract names what each step answers.
-    pub fn play(self, heap: Global) -> Result<Answer, Refusal>
-        ensures { Plays self result }
+    // The step of this name that has these words.
+    fn read_as(heap: Global, name: StepName, words: &[u8]) -> Result<Step, Fault>
+        ensures { ReadAs name words.now result }
     {
-        match self {
-            Step::Digest(message) => Ok(Answer::Digest(message.digest())),
-            Step::Cut(message) => Ok(Answer::Pieces(cut_message(heap, message)?)),
+        match name {
+            StepName::Digest => Ok(Step::Digest(Message::read(heap, words)?)),
+            StepName::Cut => Ok(Step::Cut(Message::read(heap, words)?)),
+            StepName::Begin => Ok(Step::Machine(machine(heap, name, words)?, Act::Begin)),
+            StepName::See => {
+                let (machine, message) = see_words(heap, words)?;
+                Ok(Step::Machine(machine, Act::See(message)))
+            }
+            StepName::Raise => Ok(Step::Machine(machine(heap, name, words)?, Act::Raise)),
+            StepName::Name => Ok(Step::Machine(machine(heap, name, words)?, Act::Name)),
+            StepName::Break => Ok(Step::Machine(machine(heap, name, words)?, Act::Break)),
+            StepName::Go => {
+                let (machine, number) = go_words(heap, words)?;
+                Ok(Step::LetGo(machine, number))
+            }
+            StepName::Show => {
+                no_words(words)?;
+                Ok(Step::Show)
+            }
         }
     }
 }

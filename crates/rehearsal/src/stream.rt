@@ -1,6 +1,7 @@
 // From standard input to standard output.
 use crate::line::LineAnswer;
 use crate::pending::Pending;
+use crate::world::World;
 use std::io;
 use std::io::{BufRead, BufReader};
 
@@ -16,9 +17,14 @@ fn write_answer(rt: &impl Print, answer: LineAnswer) -> io::Result<()> {
 }
 
 // Takes in a part of the script, and writes the answer to each line that ends in it.
-fn play_part(rt: &impl Print, pending: &mut Pending, part: &[u8]) -> io::Result<()> {
+fn play_part(
+    rt: &impl Print,
+    world: &mut World,
+    pending: &mut Pending,
+    part: &[u8],
+) -> io::Result<()> {
     let mut rest = part;
-    while let Some(answered) = pending.take_in(rest) {
+    while let Some(answered) = pending.take_in(world, rest) {
         write_answer(rt, answered.answer)?;
         rest = answered.after;
     }
@@ -29,6 +35,9 @@ fn play_part(rt: &impl Print, pending: &mut Pending, part: &[u8]) -> io::Result<
 pub fn play(rt: &HostRuntime) -> io::Result<()> {
     let heap = rt.alloc();
     let mut input = BufReader::with_capacity(heap, CHUNK, rt.stdin())?;
+    let Ok(mut world) = World::new(heap) else {
+        return Err(io::Error::from(io::ErrorKind::OutOfMemory));
+    };
     let mut pending = Pending::new(heap);
     // Nothing says that an input ends, and every loop has to.
     for _ in 0..u64::MAX {
@@ -37,11 +46,11 @@ pub fn play(rt: &HostRuntime) -> io::Result<()> {
         if length == 0 {
             break;
         }
-        play_part(rt, &mut pending, part)?;
+        play_part(rt, &mut world, &mut pending, part)?;
         input.consume(length);
     }
     if pending.is_begun() {
-        write_answer(rt, pending.end())?;
+        write_answer(rt, pending.end(&mut world))?;
     }
     Ok(())
 }

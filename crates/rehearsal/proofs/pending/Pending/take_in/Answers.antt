@@ -1,4 +1,4 @@
-use Rattle.std.proofs.Common.{drop-cons, take-append-drop, ◌≡◌, ◌+◌, ◌%◌, ◌^◌, ◌++◌, take, ap, ◌∙◌, zero-le, arith, rules, tests, length-drop}
+use Rattle.std.proofs.Common.{refl, drop-cons, take-append-drop, ◌≡◌, ◌+◌, ◌%◌, ◌^◌, ◌++◌, take, ap, ◌∙◌, zero-le, arith, rules, tests, length-drop}
 use Rattle.std.proofs.lemmas.Grind.{common_steps}
 use Rattle.std.proofs.lemmas.List.{take_rest}
 use Rattle.std.proofs.lemmas.Iterator.{IsFirst-from_position, YieldsList-from_slice}
@@ -8,7 +8,7 @@ use Rattle.rehearsal.proofs.pending.Pending.take_in.Goals as goal
 pub returns-in_default : goal.returns-in_default
 returns-in_default c =
     let none = if_none _ _ c.in_default.is (IsFirst-from_position _ _ _ (λ x. x ≡ 10) (λ x. x ≡ 10 → ⊥) c.position.ensures.ran (YieldsList-from_slice _ c.iter.ensures.rest) (λ x q k. search (rules, tests)) (λ x q k. search (rules, tests))) in
-    record { shorter = tt; taken = λ l h. (λ k below. none k 0 zero-le below, c.extend.ensures.line l h, c.extend.ensures.ended) }
+    record { shorter = tt; taken = λ l h. (λ k below. none k 0 zero-le below, c.extend.ensures.line l h, c.extend.ensures.ended, refl) }
 
 pub returns : goal.returns
 returns c =
