@@ -1,17 +1,24 @@
 //! The script of `rehearse`, as `docs/REHEARSE.md` describes it.
 
-use crate::cutting::{self, MAX_FILE};
+use crate::cutting::{self, MAX_FILE, MOST};
 use crate::generator::Generator;
-use crate::sha256::{sha256, Sha256};
+use crate::machines::{Machines, Making, Seen};
+use crate::refusal::Refusal;
+use crate::sha256::{sha256, Digest, Sha256};
+use crate::store::Store;
 use std::fmt;
 use std::io::{self, BufRead, BufReader, BufWriter, Read, Write};
 use std::iter;
+use std::ops::RangeInclusive;
 
 /// The bytes that a line may have, its newline not counted.
 pub const MAX_LINE: usize = 67_108_864;
 
-/// The largest number of a script: a count or a seed.
-pub const MAX_NUMBER: usize = 1_073_741_824;
+/// The largest count, and the largest seed.
+pub const MAX_COUNT: u32 = 1_073_741_824;
+
+/// The machines on the list of a script's store.
+const MACHINES: RangeInclusive<u32> = 0..=3;
 
 /// The bytes of a word that a message shows.
 const SHOWN: usize = 32;
@@ -19,27 +26,80 @@ const SHOWN: usize = 32;
 /// The bytes that are made at a time.
 const PART: usize = 8192;
 
-type Digest = [u8; 32];
-
 /// What a step answers.
-enum Answer {
+enum Answer<'a> {
     Digest(Digest),
     /// The length and the digest of each piece.
     Pieces(Vec<(usize, Digest)>),
+    Begun,
+    Seen(Seen),
+    Raised(u32),
+    Named(u32),
+    BrokenOff,
+    LetGo,
+    Show(&'a Machines),
 }
 
-impl fmt::Display for Answer {
-    fn fmt(&self, f: &mut fmt::Formatter) -> fmt::Result {
+impl Answer<'_> {
+    fn write(&self, output: &mut impl Write) -> io::Result<()> {
         match self {
-            Answer::Digest(digest) => Hex(digest).fmt(f),
+            Answer::Digest(digest) => writeln!(output, "{}", Hex(digest)),
             Answer::Pieces(pieces) => {
-                write!(f, "pieces {}", pieces.len())?;
+                writeln!(output, "pieces {}", pieces.len())?;
                 for (length, digest) in pieces {
-                    write!(f, "\n{length} {}", Hex(digest))?;
+                    writeln!(output, "{length} {}", Hex(digest))?;
                 }
                 Ok(())
             }
+            Answer::Begun => writeln!(output, "begun"),
+            Answer::Seen(Seen::Found(name)) => writeln!(output, "found {}", Hex(name)),
+            Answer::Seen(Seen::Written(name)) => writeln!(output, "written {}", Hex(name)),
+            Answer::Raised(number) => writeln!(output, "raised {number}"),
+            Answer::Named(number) => writeln!(output, "named {number}"),
+            Answer::BrokenOff => writeln!(output, "broken off"),
+            Answer::LetGo => writeln!(output, "let go"),
+            Answer::Show(machines) => write_all_there_is(machines, output),
         }
+    }
+}
+
+/// The answer to `show`: what is where.
+fn write_all_there_is(machines: &Machines, output: &mut impl Write) -> io::Result<()> {
+    let store = &machines.store;
+    for (name, bytes) in &store.place {
+        writeln!(output, "place {} {}", Hex(name), bytes.len())?;
+    }
+    for (name, bytes) in &store.aside {
+        writeln!(output, "aside {} {}", Hex(name), bytes.len())?;
+    }
+    for (machine, name) in &store.listed {
+        writeln!(output, "listed {machine} {}", Hex(name))?;
+    }
+    for ((machine, number), names) in &store.days {
+        writeln!(output, "day {machine} {number}{}", Names(names))?;
+    }
+    for &machine in &store.machines {
+        write!(output, "machine {machine} {} ", store.highest(machine))?;
+        match machines.making.get(&machine) {
+            None => writeln!(output, "none")?,
+            Some(Making { pieces, number }) => match number {
+                None => writeln!(output, "makes{}", Names(pieces))?,
+                Some(number) => writeln!(output, "names {number}{}", Names(pieces))?,
+            },
+        }
+    }
+    Ok(())
+}
+
+/// Names with a space before each.
+struct Names<'a>(&'a [Digest]);
+
+impl fmt::Display for Names<'_> {
+    fn fmt(&self, f: &mut fmt::Formatter) -> fmt::Result {
+        for name in self.0 {
+            write!(f, " {}", Hex(name))?;
+        }
+        Ok(())
     }
 }
 
@@ -57,46 +117,56 @@ impl fmt::Display for Hex<'_> {
 
 /// Why a line is not played.
 #[derive(Debug, PartialEq, Eq)]
-enum Refusal<'a> {
+enum Fault<'a> {
     TooLong,
     NoStep(&'a [u8]),
-    Usage,
-    NotADigit { byte: &'a [u8], place: usize },
+    /// The words are not those of the step, whose line has this form.
+    NotTheLine(&'static str),
+    /// The words are no form of bytes.
+    NotBytes,
+    NotADigit {
+        byte: &'a [u8],
+        place: usize,
+    },
     OddDigits(usize),
     NotAByte(&'a [u8]),
-    NotANumber(&'a [u8]),
-    FileTooLong,
+    NotANumber {
+        word: &'a [u8],
+        most: u32,
+    },
+    Refused(Refusal),
 }
 
-impl fmt::Display for Refusal<'_> {
+impl From<Refusal> for Fault<'_> {
+    fn from(refusal: Refusal) -> Self {
+        Fault::Refused(refusal)
+    }
+}
+
+impl fmt::Display for Fault<'_> {
     fn fmt(&self, f: &mut fmt::Formatter) -> fmt::Result {
         match self {
-            Refusal::TooLong => write!(f, "longer than {MAX_LINE} bytes"),
-            Refusal::NoStep(word) => write!(f, "no step is called {}", Quoted(word)),
-            Refusal::Usage => write!(
-                f,
-                "write bytes as HEX, as 'repeat BYTE COUNT' or as 'random SEED COUNT'"
-            ),
-            Refusal::NotADigit { byte, place } => {
+            Fault::TooLong => write!(f, "longer than {MAX_LINE} bytes"),
+            Fault::NoStep(word) => write!(f, "no step is called {}", Quoted(word)),
+            Fault::NotTheLine(line) => write!(f, "write the line as '{line}'"),
+            Fault::NotBytes => {
+                f.write_str("write bytes as HEX, as 'repeat BYTE COUNT' or as 'random SEED COUNT'")
+            }
+            Fault::NotADigit { byte, place } => {
                 let byte = Quoted(byte);
                 write!(f, "{byte} is not a hexadecimal digit, at place {place}")
             }
-            Refusal::OddDigits(digits) => {
+            Fault::OddDigits(digits) => {
                 write!(f, "an odd number of hexadecimal digits, {digits}")
             }
-            Refusal::NotAByte(word) => {
-                write!(
-                    f,
-                    "{} is not a byte of two hexadecimal digits",
-                    Quoted(word)
-                )
+            Fault::NotAByte(word) => {
+                let word = Quoted(word);
+                write!(f, "{word} is not a byte of two hexadecimal digits")
             }
-            Refusal::NotANumber(word) => {
-                write!(f, "{} is not a number from 0 to {MAX_NUMBER}", Quoted(word))
+            Fault::NotANumber { word, most } => {
+                write!(f, "{} is not a number from 0 to {most}", Quoted(word))
             }
-            Refusal::FileTooLong => {
-                write!(f, "refused by 1: a file has at most {MAX_FILE} bytes")
-            }
+            Fault::Refused(refusal) => refusal.fmt(f),
         }
     }
 }
@@ -122,19 +192,20 @@ impl fmt::Display for Quoted<'_> {
 pub fn play(input: impl Read, output: impl Write) -> io::Result<()> {
     let mut input = BufReader::with_capacity(1 << 16, input);
     let mut output = BufWriter::new(output);
+    let mut machines = Machines::new(Store::new(MACHINES));
     let mut line = Vec::new();
     let mut number = 0u64;
     loop {
         let answer = match next_line(&mut input, &mut line)? {
             Next::End => return output.flush(),
-            Next::Line => answer(&line),
-            Next::TooLong => Some(Err(Refusal::TooLong)),
+            Next::Line => answer(&line, &mut machines),
+            Next::TooLong => Some(Err(Fault::TooLong)),
         };
         number += 1;
         match answer {
             None => {}
-            Some(Ok(answer)) => writeln!(output, "{answer}")?,
-            Some(Err(refusal)) => writeln!(output, "line {number}: {refusal}")?,
+            Some(Ok(answer)) => answer.write(&mut output)?,
+            Some(Err(fault)) => writeln!(output, "line {number}: {fault}")?,
         }
     }
 }
@@ -181,36 +252,117 @@ fn next_line(input: &mut impl BufRead, line: &mut Vec<u8>) -> io::Result<Next> {
 }
 
 /// What is to be written for a line of an allowed length; `None` is nothing.
-fn answer(line: &[u8]) -> Option<Result<Answer, Refusal<'_>>> {
+fn answer<'a>(line: &'a [u8], machines: &'a mut Machines) -> Option<Result<Answer<'a>, Fault<'a>>> {
     let line = line.strip_suffix(b"\r").unwrap_or(line);
     let mut words = line
         .split(|byte| matches!(byte, b' ' | b'\t'))
         .filter(|word| !word.is_empty());
     match words.next()? {
         [b'#', ..] => None,
-        b"digest" => Some(Bytes::parse(words).map(digest)),
-        b"cut" => Some(Bytes::parse(words).and_then(cut)),
-        other => Some(Err(Refusal::NoStep(other))),
+        name => Some(Step::parse(name, words).and_then(|step| Ok(step.play(machines)?))),
     }
 }
 
-/// The step `digest`.
-fn digest(bytes: Bytes) -> Answer {
+/// A step of the script.
+enum Step<'a> {
+    Digest(Bytes<'a>),
+    Cut(Bytes<'a>),
+    Begin(u32),
+    See(u32, Bytes<'a>),
+    Raise(u32),
+    Name(u32),
+    Break(u32),
+    Go(u32, u32),
+    Show,
+}
+
+impl<'a> Step<'a> {
+    /// Reads a step's name and the words after it.
+    fn parse(name: &'a [u8], mut words: impl Iterator<Item = &'a [u8]>) -> Result<Self, Fault<'a>> {
+        Ok(match name {
+            b"digest" => Step::Digest(Bytes::parse(words)?),
+            b"cut" => Step::Cut(Bytes::parse(words)?),
+            b"begin" => Step::Begin(parse_machine(words, "begin M")?),
+            b"see" => {
+                let machine = words.next().ok_or(Fault::NotTheLine("see M BYTES"))?;
+                Step::See(parse_number(machine, u32::MAX)?, Bytes::parse(words)?)
+            }
+            b"raise" => Step::Raise(parse_machine(words, "raise M")?),
+            b"name" => Step::Name(parse_machine(words, "name M")?),
+            b"break" => Step::Break(parse_machine(words, "break M")?),
+            b"go" => {
+                let [machine, number] = exactly(words, "go M N")?;
+                Step::Go(
+                    parse_number(machine, u32::MAX)?,
+                    parse_number(number, u32::MAX)?,
+                )
+            }
+            b"show" => {
+                let [] = exactly(words, "show")?;
+                Step::Show
+            }
+            other => return Err(Fault::NoStep(other)),
+        })
+    }
+
+    fn play(self, machines: &mut Machines) -> Result<Answer<'_>, Refusal> {
+        Ok(match self {
+            Step::Digest(bytes) => Answer::Digest(digest(&bytes)),
+            Step::Cut(file) => Answer::Pieces(cut(&file)?),
+            Step::Begin(machine) => {
+                machines.begin(machine)?;
+                Answer::Begun
+            }
+            Step::See(machine, piece) => {
+                let piece = piece.at_most(MOST).ok_or(Refusal::PieceTooLong)?;
+                Answer::Seen(machines.see(machine, &piece)?)
+            }
+            Step::Raise(machine) => Answer::Raised(machines.raise(machine)?),
+            Step::Name(machine) => Answer::Named(machines.name(machine)?),
+            Step::Break(machine) => {
+                machines.break_off(machine)?;
+                Answer::BrokenOff
+            }
+            Step::Go(machine, number) => {
+                machines.store.let_go(machine, number)?;
+                Answer::LetGo
+            }
+            Step::Show => Answer::Show(machines),
+        })
+    }
+}
+
+/// The words after a step's name, which must be `N`. `line` is the step's line.
+fn exactly<'a, const N: usize>(
+    words: impl Iterator<Item = &'a [u8]>,
+    line: &'static str,
+) -> Result<[&'a [u8]; N], Fault<'a>> {
+    let words: Vec<&[u8]> = words.take(N + 1).collect();
+    words.try_into().map_err(|_| Fault::NotTheLine(line))
+}
+
+/// The machine that is the one word after a step's name.
+fn parse_machine<'a>(
+    words: impl Iterator<Item = &'a [u8]>,
+    line: &'static str,
+) -> Result<u32, Fault<'a>> {
+    let [machine] = exactly(words, line)?;
+    parse_number(machine, u32::MAX)
+}
+
+/// The answer to `digest`.
+fn digest(bytes: &Bytes) -> Digest {
     let mut hasher = Sha256::new();
     bytes.each_part(|part| hasher.update(part));
-    Answer::Digest(hasher.finish())
+    hasher.finish()
 }
 
-/// The step `cut`. A file that is too long is refused before its bytes are made.
-fn cut(bytes: Bytes<'_>) -> Result<Answer, Refusal<'_>> {
-    if bytes.count() > MAX_FILE {
-        return Err(Refusal::FileTooLong);
-    }
-    let mut file = Vec::with_capacity(bytes.count());
-    bytes.each_part(|part| file.extend_from_slice(part));
+/// The answer to `cut`: the length and the digest of each piece.
+fn cut(file: &Bytes) -> Result<Vec<(usize, Digest)>, Refusal> {
+    let file = file.at_most(MAX_FILE).ok_or(Refusal::FileTooLong)?;
     let pieces = cutting::pieces(&file).ok_or(Refusal::FileTooLong)?;
     let pieces = pieces.iter().map(|piece| (piece.len(), sha256(piece)));
-    Ok(Answer::Pieces(pieces.collect()))
+    Ok(pieces.collect())
 }
 
 /// The bytes that a step is about.
@@ -229,22 +381,22 @@ enum Bytes<'a> {
 
 impl<'a> Bytes<'a> {
     /// Reads the words after a step's name.
-    fn parse(words: impl Iterator<Item = &'a [u8]>) -> Result<Self, Refusal<'a>> {
+    fn parse(words: impl Iterator<Item = &'a [u8]>) -> Result<Self, Fault<'a>> {
         // No form has more than three words.
         let words: Vec<&[u8]> = words.take(4).collect();
         match words[..] {
             [] => Ok(Bytes::Hex(b"")),
             [b"repeat", byte, count] => Ok(Bytes::Repeat {
-                byte: parse_byte(byte).ok_or(Refusal::NotAByte(byte))?,
-                count: parse_number(count).ok_or(Refusal::NotANumber(count))?,
+                byte: parse_byte(byte).ok_or(Fault::NotAByte(byte))?,
+                count: parse_number(count, MAX_COUNT)? as usize,
             }),
             [b"random", seed, count] => Ok(Bytes::Random {
-                seed: parse_number(seed).ok_or(Refusal::NotANumber(seed))? as u64,
-                count: parse_number(count).ok_or(Refusal::NotANumber(count))?,
+                seed: u64::from(parse_number(seed, MAX_COUNT)?),
+                count: parse_number(count, MAX_COUNT)? as usize,
             }),
-            [b"repeat" | b"random", ..] => Err(Refusal::Usage),
+            [b"repeat" | b"random", ..] => Err(Fault::NotBytes),
             [hex] => parse_hex(hex),
-            _ => Err(Refusal::Usage),
+            _ => Err(Fault::NotBytes),
         }
     }
 
@@ -254,6 +406,16 @@ impl<'a> Bytes<'a> {
             Bytes::Hex(digits) => digits.len() / 2,
             Bytes::Repeat { count, .. } | Bytes::Random { count, .. } => count,
         }
+    }
+
+    /// All of them; `None` where they are more than `most`, before any is made.
+    fn at_most(&self, most: usize) -> Option<Vec<u8>> {
+        if self.count() > most {
+            return None;
+        }
+        let mut bytes = Vec::with_capacity(self.count());
+        self.each_part(|part| bytes.extend_from_slice(part));
+        Some(bytes)
     }
 
     /// Makes the bytes and hands them on, `PART` at a time.
@@ -278,16 +440,16 @@ fn each_part(mut bytes: impl Iterator<Item = u8>, mut take: impl FnMut(&[u8])) {
     }
 }
 
-fn parse_hex(word: &[u8]) -> Result<Bytes<'_>, Refusal<'_>> {
+fn parse_hex(word: &[u8]) -> Result<Bytes<'_>, Fault<'_>> {
     if let Some(at) = word.iter().position(|digit| !digit.is_ascii_hexdigit()) {
         let byte = &word[at..=at];
-        return Err(Refusal::NotADigit {
+        return Err(Fault::NotADigit {
             byte,
             place: at + 1,
         });
     }
     if word.len() % 2 == 1 {
-        return Err(Refusal::OddDigits(word.len()));
+        return Err(Fault::OddDigits(word.len()));
     }
     Ok(Bytes::Hex(word))
 }
@@ -309,19 +471,21 @@ fn hex_digit(digit: u8) -> Option<u8> {
     }
 }
 
-/// The number that decimal digits spell, if it is at most `MAX_NUMBER`.
-fn parse_number(word: &[u8]) -> Option<usize> {
-    let mut number: u64 = 0;
+/// The number that decimal digits spell, if it is at most `most`.
+fn parse_number(word: &[u8], most: u32) -> Result<u32, Fault<'_>> {
+    let fault = Fault::NotANumber { word, most };
+    let mut number: u32 = 0;
     for &digit in word {
         if !digit.is_ascii_digit() {
-            return None;
+            return Err(fault);
         }
-        number = number * 10 + u64::from(digit - b'0');
-        if number > MAX_NUMBER as u64 {
-            return None;
+        let next = u64::from(number) * 10 + u64::from(digit - b'0');
+        match u32::try_from(next) {
+            Ok(next) if next <= most => number = next,
+            _ => return Err(fault),
         }
     }
-    Some(number as usize)
+    Ok(number)
 }
 
 #[cfg(test)]
@@ -537,6 +701,161 @@ mod tests {
                 answers(line.as_bytes(), &expected);
             }
         }
+    }
+
+    /// `NAME` in the answers stands for the name of the piece `616263`.
+    #[track_caller]
+    fn machines_answer(script: &str, expected: &str) {
+        answers(script.as_bytes(), &expected.replace("NAME", ABC.trim_end()));
+    }
+
+    #[test]
+    fn show() {
+        answers(
+            b"show",
+            "machine 0 0 none\nmachine 1 0 none\nmachine 2 0 none\nmachine 3 0 none\n",
+        );
+        let places = format!(
+            "place NAME 3\n\
+             place {} 0\n\
+             listed 1 {}\n\
+             listed 3 NAME\n",
+            EMPTY.trim_end(),
+            EMPTY.trim_end()
+        );
+        machines_answer(
+            "begin 3\nsee 3 616263\nsee 3 616263\nraise 3\nname 3\nbegin 1\nsee 1\n\
+             begin 3\nraise 3\nbegin 0\nshow\n\
+             see 0 616263\nraise 0\nname 3\nbreak 1\nbegin 1\nsee 1 616263\nsee 1\nshow\n",
+            &format!(
+                "begun\nwritten NAME\nfound NAME\nraised 1\nnamed 1\nbegun\nwritten {EMPTY}\
+                 begun\nraised 2\nbegun\n\
+                 {places}\
+                 day 3 1 NAME NAME\n\
+                 machine 0 0 makes\n\
+                 machine 1 0 makes {EMPTY}\
+                 machine 2 0 none\n\
+                 machine 3 2 names 2\n\
+                 found NAME\nraised 1\nnamed 2\nbroken off\nbegun\nfound NAME\nfound {EMPTY}\
+                 {places}\
+                 day 3 1 NAME NAME\n\
+                 day 3 2\n\
+                 machine 0 1 names 1 NAME\n\
+                 machine 1 0 makes NAME {EMPTY}\
+                 machine 2 0 none\n\
+                 machine 3 2 none\n"
+            ),
+        );
+    }
+
+    #[test]
+    fn machines() {
+        machines_answer(
+            "begin 00\nsee 0 616263\nraise 0\nbreak 0\nbegin 0\nsee 0 616263\nraise 0\nname 0\n\
+             go 00 0002\ngo 0 2\nbegin 0\nraise 0",
+            "begun\nwritten NAME\nraised 1\nbroken off\nbegun\nfound NAME\nraised 2\nnamed 2\n\
+             let go\nline 10: refused by 1: there is no such machine, day or path\n\
+             begun\nraised 3\n",
+        );
+    }
+
+    #[test]
+    fn refusals() {
+        let absent = "refused by 1: there is no such machine, day or path";
+        let long = "refused by 1: a piece has at most 65536 bytes";
+        let again = "refused by 3: the machine already makes a day";
+        let none = "refused by 3: the machine makes no day";
+        let raised =
+            "refused by 3: the day has its number already, and is to be named or broken off";
+        let not_raised = "refused by 3: the day has no number yet, which is to be raised first";
+        for (before, line, answer) in [
+            ("", "begin 4", absent),
+            ("", "see 4 61", absent),
+            ("", "raise 4", absent),
+            ("", "name 64", absent),
+            ("", "break 4294967295", absent),
+            ("", "go 0 0", absent),
+            ("", "go 4 1", absent),
+            ("begin 0", "go 0 1", absent),
+            ("begin 0", "begin 0", again),
+            ("", "see 0 61", none),
+            ("", "raise 0", none),
+            ("", "name 0", none),
+            ("", "break 0", none),
+            ("begin 0", "name 0", not_raised),
+            ("begin 0\nraise 0", "go 0 1", absent),
+            ("begin 0\nraise 0", "begin 0", again),
+            ("begin 0\nraise 0", "see 0 61", raised),
+            ("begin 0\nraise 0", "raise 0", raised),
+            ("begin 0", "see 0 repeat 61 65537", long),
+            ("begin 0\nraise 0", "see 0 repeat 61 65537", long),
+            ("", "see 0 random 1 1073741824", long),
+            ("", "see 4 repeat 61 65537", long),
+        ] {
+            let script = |lines: &[&str]| played(lines.join("\n").as_bytes());
+            let answers = script(&[before, line]);
+            assert_eq!(
+                answers.lines().last(),
+                Some(&*format!(
+                    "line {}: {answer}",
+                    before.lines().count().max(1) + 1
+                ))
+            );
+            // Nothing is changed.
+            let shown = script(&[before, "show"]);
+            let shown = &shown[script(&[before]).len()..];
+            assert!(script(&[before, line, "show"]).ends_with(shown));
+        }
+    }
+
+    #[test]
+    fn lines_of_machines() {
+        for (line, form) in [
+            ("begin", "begin M"),
+            ("begin 0 0", "begin M"),
+            ("begin x y", "begin M"),
+            ("see", "see M BYTES"),
+            ("raise", "raise M"),
+            ("raise 0 0", "raise M"),
+            ("name", "name M"),
+            ("name 0 0", "name M"),
+            ("break", "break M"),
+            ("break 0 0", "break M"),
+            ("go", "go M N"),
+            ("go 0", "go M N"),
+            ("go x", "go M N"),
+            ("go 0 0 0", "go M N"),
+            ("show 0", "show"),
+            ("show #", "show"),
+        ] {
+            let expected = format!("line 1: write the line as '{form}'\n");
+            answers(line.as_bytes(), &expected);
+        }
+        for word in ["x", "4294967296", "-0", "+1", "0x1", "99999999999999999999"] {
+            let expected = format!("line 1: '{word}' is not a number from 0 to 4294967295\n");
+            for line in [
+                format!("begin {word}"),
+                format!("see {word}"),
+                format!("see {word} repeat 61"),
+                format!("raise {word}"),
+                format!("name {word}"),
+                format!("break {word}"),
+                format!("go {word} y"),
+                format!("go 0 {word}"),
+            ] {
+                answers(line.as_bytes(), &expected);
+            }
+        }
+        answers(b"see 9 61 62", USAGE);
+        answers(b"see 9 repeat 61", USAGE);
+        answers(
+            b"see 9 6g",
+            "line 1: 'g' is not a hexadecimal digit, at place 2\n",
+        );
+        answers(
+            b"see 9 random 1 1073741825",
+            "line 1: '1073741825' is not a number from 0 to 1073741824\n",
+        );
     }
 
     #[test]

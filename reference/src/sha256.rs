@@ -6,6 +6,9 @@ const BLOCK: usize = 64;
 /// The bytes at the end of the last block that hold the message's length.
 const LENGTH: usize = 8;
 
+/// The bytes of a message digest.
+pub type Digest = [u8; 32];
+
 /// The initial hash value: the first 32 bits of the fractional parts of the
 /// square roots of the first eight primes (5.3.3).
 const H0: [u32; 8] = [
@@ -134,7 +137,7 @@ impl Sha256 {
 
     /// Pads the message (5.1.1): a one bit, zero bits, and the number of the
     /// message's bits in 64 bits, which end a block.
-    pub fn finish(mut self) -> [u8; 32] {
+    pub fn finish(mut self) -> Digest {
         let bits = self.length.wrapping_mul(8);
         self.block[self.held] = 0x80;
         self.block[self.held + 1..].fill(0);
@@ -159,7 +162,7 @@ impl Default for Sha256 {
     }
 }
 
-pub fn sha256(message: &[u8]) -> [u8; 32] {
+pub fn sha256(message: &[u8]) -> Digest {
     let mut hasher = Sha256::new();
     hasher.update(message);
     hasher.finish()

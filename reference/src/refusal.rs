@@ -1,0 +1,60 @@
+//! Why a step is refused: the number of each refusal and its words, as
+//! `docs/REHEARSE.md` lists them.
+
+use crate::cutting::{MAX_FILE, MOST};
+use crate::store::MAX_LISTED;
+use std::fmt;
+
+#[derive(Clone, Copy, Debug, PartialEq, Eq)]
+pub enum Refusal {
+    FileTooLong,
+    PieceTooLong,
+    /// There is no such machine on the list, or no such day.
+    NotThere,
+    /// A day has that name already. No script gets here: a machine's number
+    /// only rises, and a day has the number that was raised for it.
+    NameTaken,
+    AlreadyMakesDay,
+    MakesNoDay,
+    NumberRaised,
+    NumberNotRaised,
+    ListsFull,
+    LastNumber,
+}
+
+impl Refusal {
+    pub fn number(self) -> u8 {
+        match self {
+            Refusal::FileTooLong | Refusal::PieceTooLong | Refusal::NotThere => 1,
+            Refusal::NameTaken => 2,
+            Refusal::AlreadyMakesDay
+            | Refusal::MakesNoDay
+            | Refusal::NumberRaised
+            | Refusal::NumberNotRaised => 3,
+            Refusal::ListsFull => 5,
+            Refusal::LastNumber => 6,
+        }
+    }
+}
+
+impl fmt::Display for Refusal {
+    fn fmt(&self, f: &mut fmt::Formatter) -> fmt::Result {
+        write!(f, "refused by {}: ", self.number())?;
+        match self {
+            Refusal::FileTooLong => write!(f, "a file has at most {MAX_FILE} bytes"),
+            Refusal::PieceTooLong => write!(f, "a piece has at most {MOST} bytes"),
+            Refusal::NotThere => f.write_str("there is no such machine, day or path"),
+            Refusal::NameTaken => f.write_str("there is a day of that number already"),
+            Refusal::AlreadyMakesDay => f.write_str("the machine already makes a day"),
+            Refusal::MakesNoDay => f.write_str("the machine makes no day"),
+            Refusal::NumberRaised => {
+                f.write_str("the day has its number already, and is to be named or broken off")
+            }
+            Refusal::NumberNotRaised => {
+                f.write_str("the day has no number yet, which is to be raised first")
+            }
+            Refusal::ListsFull => write!(f, "the lists have at most {MAX_LISTED} names"),
+            Refusal::LastNumber => write!(f, "a day number is at most {}", u32::MAX),
+        }
+    }
+}
