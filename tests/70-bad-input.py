@@ -402,14 +402,19 @@ def test():
     from_file(script, expected)
 
     in_pieces(
-        b"\n digest \t616263\r\nx\n#\n\r\ndigest repeat 61 3\ncut random 1 4\r\ndigest 616",
+        b"\n digest \t616263\r\nx\n#\n\r\ndigest repeat 61 3\ncut random 1 4\r\n"
+        b"begin 1\r\nsee 1 616263\n see 1  616263\nname 1\ndigest 616",
         [
             ABC,
             "line 3: no step is called 'x'",
             AAA,
             "pieces 1",
             "4 " + RANDOM_1_4,
-            "line 8: an odd number of hexadecimal digits, 3",
+            "begun",
+            "written " + ABC,
+            "found " + ABC,
+            "line 11: refused by 3: the day has no number yet, which is to be raised first",
+            "line 12: an odd number of hexadecimal digits, 3",
         ],
     )
 

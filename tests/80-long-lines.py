@@ -8,6 +8,7 @@ ABC = "ba7816bf8f01cfea414140de5dae2223b00361a396177a9cb410ff61f20015ad"
 # The SHA-256 of the bytes 6c82a562.
 RANDOM_1_4 = "4c9dc834ecbb8b2cb70013652d48d92274748cf3ff08cc4d47e809e7cb905757"
 TOO_LONG = "longer than 67108864 bytes"
+TOO_LONG_PIECE = "refused by 1: a piece has at most 65536 bytes"
 
 
 def followed(line, *expected):
@@ -28,6 +29,15 @@ def test():
     zeros = b"0" * 5_000_000
     followed(b"digest random " + zeros + b"1 " + zeros + b"4", RANDOM_1_4)
     followed(b"cut random " + zeros + b"1 " + zeros + b"4", "pieces 1", "4 " + RANDOM_1_4)
+    followed(b"begin " + zeros + b"1", "begun")
+    followed(b"go " + zeros + b"1 " + zeros + b"4", "line 1: refused by 1: there is no such machine, day or path")
+    followed(b"raise " + zeros + b"4294967296", "line 1: '" + "0" * 32 + "..' is not a number from 0 to 4294967295")
+    followed(b"see 0 " + digits, "line 1: " + TOO_LONG_PIECE)
+    followed(b"see 0 " + digits + b"g", "line 1: 'g' is not a hexadecimal digit, at place 10000001")
+    followed(b"see 0" + b" 61" * 3_000_000, "line 1: " + USAGE)
+    followed(b"begin" + b" 0" * 3_000_000, "line 1: write the line as 'begin M'")
+    followed(b"go" + b" 0" * 3_000_000, "line 1: write the line as 'go M N'")
+    followed(b"show" + b" 0" * 3_000_000, "line 1: write the line as 'show'")
     followed(b"Wx" * 5_000_000, "line 1: no step is called '" + "Wx" * 16 + "..'")
     followed(b"\0" * 10_000_000, "line 1: no step is called '" + r"\x00" * 32 + "..'")
     followed(b"#" + b" digest" * 1_500_000)
@@ -44,6 +54,9 @@ def test():
     followed(b"cut     " + digits[:-1] + b"\r", "line 1: an odd number of hexadecimal digits, 67108855")
     followed(b"cut     " + digits[:-1] + b"z", "line 1: 'z' is not a hexadecimal digit, at place 67108856")
     followed(b"cut     " + digits + b"6", "line 1: " + TOO_LONG)
+    followed(b"see 0   " + digits, "line 1: " + TOO_LONG_PIECE)
+    followed(b"see 0   " + digits[:-1] + b"\r", "line 1: an odd number of hexadecimal digits, 67108855")
+    followed(b"see 0   " + digits + b"6", "line 1: " + TOO_LONG)
     followed(longest + b"6", "line 1: " + TOO_LONG)
     followed(longest + b"\r", "line 1: " + TOO_LONG)
     followed(b"#" * MAX_LINE)

@@ -25,6 +25,7 @@ def test():
         with open("/dev/full", "wb") as full:
             fails(name, path, "a full disk as its output", input=b"digest 616263\n", stdout=full)
             fails(name, path, "a full disk for many pieces", input=b"cut repeat 00 9999999\n", stdout=full)
+            fails(name, path, "a full disk for what is where", input=b"show\n" * 9999, stdout=full)
 
 
 main(test)

@@ -5,7 +5,7 @@ and the script goes on. The plain Rust program gives up there, and is left out."
 import resource
 import subprocess
 
-from common import MAX_FILE, TIME_LIMIT, Failure, check, cut_answer, main, pieces, programs, sha256
+from common import MAX_FILE, TIME_LIMIT, Failure, agreed_lines, check, cut_answer, main, pieces, programs, sha256
 
 MEGABYTE = 1 << 20
 NO_MEMORY = "there is not enough memory"
@@ -49,11 +49,37 @@ def played(got, limit):
     return which
 
 
+# A machine that sees to many pieces of 65,536 bytes. Breaking off and letting go need no memory, but for their lines.
+STORE = [b"begin 0", *(b"see 0 random %d 65536" % seed for seed in range(600)), b"raise 0", b"break 0", b"go 0 1", b"digest repeat 61 3"]
+
+
+def fill_store(path):
+    """A step that there is no memory for does nothing, and the script goes on."""
+    script = b"".join(line + b"\n" for line in STORE)
+    wanted = [line.decode() for line in agreed_lines(script, "many pieces")]
+    for limit in 20 * MEGABYTE, 30 * MEGABYTE, 90 * MEGABYTE:
+        got = answers(path, script, limit)
+        if len(got) != len(wanted):
+            raise Failure(f"with {limit} bytes: {len(got)} answers to {len(wanted)} lines")
+        wanting = 0
+        for number, (line, answer) in enumerate(zip(got, wanted), 1):
+            if line == f"line {number}: {NO_MEMORY}":
+                wanting += 1
+            elif line != answer:
+                raise Failure(f"with {limit} bytes: line {number} is answered by {line!r}, not {answer!r}")
+        print(f"with {limit // MEGABYTE} MiB there was no memory for {wanting} of {len(STORE)} steps of machines")
+        if (wanting == 0) != (limit == 90 * MEGABYTE):
+            raise Failure(f"with {limit} bytes there was no memory for {wanting} lines")
+        if got[-3:] != wanted[-3:]:
+            raise Failure(f"with {limit} bytes: {got[-3:]}")
+
+
 def test():
     script = b"".join(line + b"\n" for line, _ in LINES)
     check(script, [line for _, answer in LINES for line in answer])
 
     (_, path), _ = programs()
+    fill_store(path)
     limits = range(12 * MEGABYTE, 80 * MEGABYTE, 2 * MEGABYTE)
     found = [played(answers(path, script, limit), limit) for limit in limits]
     counts = ", ".join(str(sum(which)) for which in found)

@@ -7,10 +7,10 @@ import re
 from common import Failure, agreed_lines, main
 
 SEED = 90
-SCRIPTS = 80
+SCRIPTS = 160
 LINES = 250
 
-# Lines to mutate.
+# Lines to mutate. Some are several in a row.
 STARTS = [
     b"digest",
     b"digest 616263",
@@ -51,6 +51,34 @@ STARTS = [
     b"digest 61 62",
     b"digest 6",
     b"digest zz",
+    b"begin 0",
+    b"begin 1",
+    b"begin 0003",
+    b"begin 4294967295",
+    b"see",
+    b"see 0",
+    b"see 0 616263",
+    b"see 1 5AbC9f00",
+    b"see 1 repeat 61 3",
+    b"see 0 random 1 4",
+    b"see 3 repeat 61 65537",
+    b"see 63 61",
+    b"raise 0",
+    b"raise 1",
+    b"name 0",
+    b"name 1",
+    b"name 64",
+    b"break 0",
+    b"break 1",
+    b"go 0",
+    b"go 0 1",
+    b"go 1 2",
+    b"go 4294967295 4294967295",
+    b"show",
+    b"show 0",
+    b"begin 0\nsee 0 61\nsee 0 repeat 61 1\nraise 0\nname 0\ngo 0 2",
+    b"begin 1\nsee 1 61\nsee 1 62\nraise 1\nraise 1\nbegin 1\nshow\nname 1",
+    b"break 2\nbegin 2\nsee 2 61\nname 2\nsee 2\nshow\nraise 2\nsee 2\nbreak 2",
     b"# comment",
     b"",
     b" \t\r",
@@ -62,7 +90,8 @@ STARTS = [
 # What is put into lines: the bytes that a script can tell apart.
 PIECES = [b" ", b"\t", b"\r", b"\n", b"#", b"'", b"\\", b"\0", b"0", b"9", b"a", b"F", b"g", b"G"]
 PIECES += [b"\x0b", b"\x1f", b"~", b"\x7f", b"\x80", b"\xff", b"digest", b"repeat", b" 61", b"\r\n"]
-PIECES += [b"cut", b"random", b" 1 "]
+PIECES += [b"cut", b"random", b" 1 ", b"begin", b"see", b"raise", b"name", b"break", b"go", b"show"]
+PIECES += [b" 0", b"1", b"\nbegin 0\n", b"\nraise 1\n"]
 
 # A count that takes both programs long; there are other tests for those. `cut`
 # refuses 20,000,000 bytes and more, which takes no time.
@@ -87,6 +116,26 @@ KINDS = {
     "no pieces": rb"^pieces 0$",
     "a piece": rb"^[1-9][0-9]* [0-9a-f]{64}$",
     "a file that is too long": rb"^line [0-9]+: refused by 1: a file has at most 16777216 bytes$",
+    "a step's line": rb"^line [0-9]+: write the line as '(begin|raise|name|break) M'$",
+    "the line of see": rb"^line [0-9]+: write the line as 'see M BYTES'$",
+    "the line of go": rb"^line [0-9]+: write the line as 'go M N'$",
+    "the line of show": rb"^line [0-9]+: write the line as 'show'$",
+    "a word that is no machine or number of a day": rb"is not a number from 0 to 4294967295$",
+    "a piece that is too long": rb"^line [0-9]+: refused by 1: a piece has at most 65536 bytes$",
+    "no such machine or day": rb"^line [0-9]+: refused by 1: there is no such machine, day or path$",
+    "a machine that makes a day already": rb"^line [0-9]+: refused by 3: the machine already makes a day$",
+    "a machine that makes none": rb"^line [0-9]+: refused by 3: the machine makes no day$",
+    "a number that is raised": rb"^line [0-9]+: refused by 3: the day has its number already",
+    "a number that is not raised": rb"^line [0-9]+: refused by 3: the day has no number yet",
+    "a day that is begun": rb"^begun$",
+    "a piece that is found": rb"^found [0-9a-f]{64}$",
+    "a piece that is written": rb"^written [0-9a-f]{64}$",
+    "a day that has its name": rb"^named [0-9]+$",
+    "a day that is broken off": rb"^broken off$",
+    "a day that is let go": rb"^let go$",
+    "a day that is shown": rb"^day [0-3] [0-9]+",
+    "a machine that makes a day": rb"^machine [0-3] [0-9]+ makes",
+    "a machine that names one": rb"^machine [0-3] [0-9]+ names",
 }
 
 

@@ -1,0 +1,87 @@
+#!/usr/bin/env -S python3 -B
+"""As many names in the lists as there may be, and what is refused then. How long
+the programs take is printed: one in which a step takes time for each name that
+there is does not end within `TIME_LIMIT`."""
+
+import time
+
+from common import compare, main, programs, run, sha256
+
+MAX_LISTED = 262_144
+MACHINES = 4
+
+FULL = "refused by 5: the lists have at most 262144 names"
+NO_NUMBER = "refused by 3: the day has its number already, and is to be named or broken off"
+
+
+def test():
+    lines, expected = [], []
+    # What `show` has to write.
+    place, listed, seen = {}, [], [[] for _ in range(MACHINES)]
+
+    def step(line, *answer):
+        lines.append(line)
+        expected.extend(answer)
+
+    def see(machine, piece, found=False):
+        name = sha256(piece)
+        step(f"see {machine} {piece.hex()}", ("found " if found else "written ") + name)
+        seen[machine].append(name)
+        if not found:
+            place[name] = len(piece)
+            listed.append((machine, name))
+
+    def refused(line, why):
+        step(line, f"line {len(lines) + 1}: {why}")
+
+    def show(days):
+        step("show", *[f"place {name} {length}" for name, length in sorted(place.items())])
+        expected.extend(f"listed {machine} {name}" for machine, name in sorted(listed))
+        expected.extend(days)
+
+    for machine in range(MACHINES):
+        step(f"begin {machine}", "begun")
+    # Each machine writes a quarter of them, in turns.
+    for number in range(MAX_LISTED):
+        see(number % MACHINES, number.to_bytes(3, "big"))
+
+    # A new piece is refused; one that is there is found, whoever wrote it.
+    for machine in range(MACHINES):
+        refused(f"see {machine} 61", FULL)
+        refused(f"see {machine} repeat 61 65536", FULL)
+        refused(f"see {machine}", FULL)
+        for number in (0, 1, 2, 3, 100_000, MAX_LISTED - 1):
+            see(machine, number.to_bytes(3, "big"), found=True)
+    # What is refused by a lower number has that one.
+    refused("see 4 61", "refused by 1: there is no such machine, day or path")
+    refused("see 0 repeat 61 65537", "refused by 1: a piece has at most 65536 bytes")
+
+    # A day can still be made. Letting it go makes no room.
+    step("raise 0", "raised 1")
+    refused("see 0 61", NO_NUMBER)
+    step("name 0", "named 1")
+    step("raise 1", "raised 1")
+    step("break 2", "broken off")
+    day = " ".join(["day 0 1", *seen[0]])
+    machines = [
+        "machine 0 1 none",
+        " ".join(["machine 1 1 names 1", *seen[1]]),
+        "machine 2 0 none",
+        " ".join(["machine 3 0 makes", *seen[3]]),
+    ]
+    show([day, *machines])
+    step("go 0 1", "let go")
+    step("begin 0", "begun")
+    refused("see 0 61", FULL)
+    show(["machine 0 1 makes", *machines[1:]])
+
+    script = "".join(line + "\n" for line in lines).encode()
+    for name, path in programs():
+        start = time.monotonic()
+        output = run(name, path, script)
+        took = time.monotonic() - start
+        compare(name, output, expected, script)
+        print(f"{name}: {took:.1f} s for {len(lines)} steps")
+
+
+main(test)
