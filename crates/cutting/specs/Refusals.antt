@@ -3,7 +3,7 @@
 use Rattle.std.specs.Prelude.{ℕ, cond, List, ◌++◌, Some, None, codes, decimal, Option, nat_le}
 use Rattle.std.specs.Option.{unwrap_or}
 use Rattle.cutting.specs.declared.refusal.Refusal.{Refusal}
-use Rattle.cutting.specs.declared.refusal.Refusal.TheVariants.{FileTooLong, PieceTooLong, Unknown, BadDay, DayIsThere, MakesDay, MakesNone, HasNumber, HasNoNumber, NotAtThatPoint, TooManyNames, LastNumber, NoMemory, ReadOrWrite}
+use Rattle.cutting.specs.declared.refusal.Refusal.TheVariants.{FileTooLong, PieceTooLong, Unknown, BadDay, DayIsThere, MakesDay, MakesNone, HasNumber, HasNoNumber, NotAtThatPoint, Unfinished, TooManyNames, LastNumber, NoMemory, ReadOrWrite}
 
 -- the number of a refusal; want of memory and a failed read or write have none
 abbrev pub number_of : Refusal → Option ℕ
@@ -17,6 +17,7 @@ number_of MakesNone = Some 3
 number_of HasNumber = Some 3
 number_of HasNoNumber = Some 3
 number_of NotAtThatPoint = Some 4
+number_of Unfinished = Some 4
 number_of TooManyNames = Some 5
 number_of LastNumber = Some 6
 number_of NoMemory = None
@@ -42,6 +43,7 @@ words MakesNone = codes "the machine makes no day"
 words HasNumber = codes "the day has its number already, and is to be named or broken off"
 words HasNoNumber = codes "the day has no number yet, which is to be raised first"
 words NotAtThatPoint = codes "the sweeper is not at that point"
+words Unfinished = codes "a machine has finished no day since"
 words TooManyNames = codes "the lists have at most 262144 names"
 words LastNumber = codes "a day number is at most 4294967295"
 words NoMemory = codes "there is not enough memory"

@@ -20,8 +20,9 @@ pub enum Refusal {
     MakesNone,
     HasNumber,
     HasNoNumber,
-    // 4: the sweeper does something else
+    // 4: the sweeper does something else, or waits for a machine
     NotAtThatPoint,
+    Unfinished,
     // 5: the lists of names are full
     TooManyNames,
     // 6: a day number that is too large
@@ -41,7 +42,7 @@ impl Refusal {
             Refusal::BadDay | Refusal::DayIsThere => Some(2),
             Refusal::MakesDay | Refusal::MakesNone | Refusal::HasNumber | Refusal::HasNoNumber =>
                 Some(3),
-            Refusal::NotAtThatPoint => Some(4),
+            Refusal::NotAtThatPoint | Refusal::Unfinished => Some(4),
             Refusal::TooManyNames => Some(5),
             Refusal::LastNumber => Some(6),
             Refusal::NoMemory | Refusal::ReadOrWrite => None,
@@ -79,6 +80,7 @@ impl Refusal {
             }
             Refusal::HasNoNumber => "the day has no number yet, which is to be raised first",
             Refusal::NotAtThatPoint => "the sweeper is not at that point",
+            Refusal::Unfinished => "a machine has finished no day since",
             Refusal::TooManyNames => "the lists have at most 262144 names",
             Refusal::LastNumber => "a day number is at most 4294967295",
             Refusal::NoMemory => "there is not enough memory",
