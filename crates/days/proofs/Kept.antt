@@ -14,12 +14,12 @@ use Rattle.store.specs.Requests.{Read, Write, Highest, Raise, NameDay, Done, Ref
 use Rattle.store.specs.State.{State, last_number}
 use Rattle.days.specs.declared.done.Done.{Done as StepDone}
 use Rattle.days.specs.declared.done.Done.TheVariants.{Begun, Found, Written, Raised, Named, BrokenOff}
-use Rattle.days.specs.Asking.{Doing}
+use Rattle.store.specs.Asking.{Doing}
 use Rattle.days.specs.Machines.{Work}
 use Rattle.days.specs.Promise.{Promised, Steps}
 use Rattle.days.specs.Steps.{DayRaises, DaySees, Ends, ForDay, GoesOn, Names, NoDay, NotNamed, NotRaised, Raises, Sees, Unseen, enlist}
-use Rattle.days.specs.Within.{IsExact}
-use Rattle.days.proofs.Exact.{highest, named, raised, read, wrote}
+use Rattle.store.specs.Asking.{IsExact}
+use Rattle.store.proofs.Exact.{highest, named, raised, read, wrote}
 use Rattle.days.proofs.Moves.{compares_equal, not_on, on, unmoved}
 use Rattle.std.proofs.lemmas.Cmp.{nat_cmp_total, nat_list_cmp_total}
 

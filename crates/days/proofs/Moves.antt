@@ -12,12 +12,13 @@ use Rattle.store.specs.declared.listing.Listing.{Listing}
 use Rattle.store.specs.Effects.{with_listing}
 use Rattle.store.specs.Requests.{Request, HasMachine, Told}
 use Rattle.store.specs.State.{State}
-use Rattle.days.specs.Asking.{Asked, Doing, NotOnList}
+use Rattle.days.specs.Asking.{Asked, NotOnList}
+use Rattle.store.specs.Asking.{Doing}
 use Rattle.days.specs.Machines.{Work}
-use Rattle.days.specs.Within.{IsExact}
+use Rattle.store.specs.Asking.{IsExact}
 use Rattle.days.specs.Steps.{fails}
 use Rattle.days.specs.System.{Step, Within, World, onward, put, still, world}
-use Rattle.days.proofs.Exact.{refused, told}
+use Rattle.store.proofs.Exact.{refused, told}
 
 pub put_here : (i : ℕ) (x : Option Work) (f : ℕ → Option Work) → put i x f i ≡ x
 put_here i x f = grind (arith, common_steps)

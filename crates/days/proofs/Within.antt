@@ -10,12 +10,13 @@ use Rattle.store.specs.Requests.{Read, Highest, Raise, NameDay, Done, Bytes}
 use Rattle.store.specs.State.{State, last_number, most_in_piece}
 use Rattle.days.specs.declared.done.Done.TheVariants.{Begun, Found, Written, Raised, Named, BrokenOff}
 use Rattle.days.specs.declared.done.Done.{Done as StepDone}
-use Rattle.days.specs.Asking.{Doing}
+use Rattle.store.specs.Asking.{Doing}
 use Rattle.days.specs.Machines.{Work, new_day, with_number, with_piece}
-use Rattle.days.specs.Within.{AreSteps, IsExact}
+use Rattle.days.specs.Within.{AreSteps}
+use Rattle.store.specs.Asking.{IsExact}
 use Rattle.days.specs.Steps.{Begins, Breaks, DayRaises, DaySees, Ends, ForDay, GoesOn, NoDay, Sees, enlist, write}
 use Rattle.days.specs.System.{Makes, Within, World, begins, breaks, finds, lists, names, raises, still, world, writes}
-use Rattle.days.proofs.Exact.{Enlisted, enlisted, highest, named, raised, read, wrote}
+use Rattle.store.proofs.Exact.{Enlisted, enlisted, highest, named, raised, read, wrote}
 use Rattle.days.proofs.Moves.{listed_here, more, moves, not_on, on, put_here, put_put, stays, unmoved}
 
 module _ {S : Type 0} (does : Doing S) (holds : S → State) (exact : IsExact holds does) where

@@ -5,11 +5,8 @@ use Rattle.cutting.specs.declared.refusal.Refusal.{Refusal}
 use Rattle.cutting.specs.declared.refusal.Refusal.TheVariants.{Unknown}
 use Rattle.digest.specs.declared.value.Digest.{Digest}
 use Rattle.store.specs.declared.piece.Spot.TheVariants.{Place}
+use Rattle.store.specs.Asking.{Doing}
 use Rattle.store.specs.Requests.{Request, HasMachine, Read, Answer, Told, Bytes, Refused}
-
--- what a store does: from one state a request is given an answer, and leaves another state
-abbrev pub Doing : Type 0 → Type 1
-Doing S = S → Request → Answer → S → Type 0
 
 -- these requests were given these answers, one after the other
 abbrev pub Asked : {S : Type 0} → Doing S → S → List (Request × Answer) → S → Type 0

@@ -7,10 +7,10 @@ use Rattle.digest.specs.Digests.{digest_of}
 use Rattle.store.specs.State.{State}
 use Rattle.days.specs.declared.done.Done.{Done}
 use Rattle.days.specs.declared.done.Done.TheVariants.{Raised, Named}
-use Rattle.days.specs.Asking.{Doing}
+use Rattle.store.specs.Asking.{Doing}
 use Rattle.days.specs.Machines.{Work}
 use Rattle.days.specs.Steps.{Begins, Breaks, Names, Raises, Sees}
-use Rattle.days.specs.Within.{IsExact}
+use Rattle.store.specs.Asking.{IsExact}
 
 module _ {S : Type 0} (does : Doing S) where
   -- any step of machine i

@@ -13,7 +13,8 @@ use Rattle.days.specs.declared.done.Done.{Done}
 use Rattle.days.specs.declared.machine.Machine.{Machine}
 use Rattle.days.specs.declared.making.Underway.{Underway}
 use Rattle.days.specs.declared.done.Done.TheVariants.{Begun, Found, Written, Raised, Named, BrokenOff}
-use Rattle.days.specs.Asking.{Asked, Doing, NotOnList, in_place, on_list}
+use Rattle.days.specs.Asking.{Asked, NotOnList, in_place, on_list}
+use Rattle.store.specs.Asking.{Doing}
 use Rattle.days.specs.Machines.{Work, makes, new_day, with_number, with_piece, work_of}
 
 -- a request that is done; one that is refused, or fails

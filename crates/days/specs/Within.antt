@@ -2,18 +2,12 @@
 -- Assumes nothing.
 use Rattle.std.specs.Prelude.{◌≡◌, ℕ, List, Option, Result}
 use Rattle.cutting.specs.declared.refusal.Refusal.{Refusal}
-use Rattle.store.specs.Effects.{Does}
-use Rattle.store.specs.Requests.{Request, Answer}
+use Rattle.store.specs.Asking.{Doing, IsExact}
 use Rattle.store.specs.State.{State}
 use Rattle.days.specs.declared.done.Done.{Done}
-use Rattle.days.specs.Asking.{Doing}
 use Rattle.days.specs.Machines.{Work}
 use Rattle.days.specs.Steps.{Begins, Breaks, Names, Raises, Sees}
 use Rattle.days.specs.System.{World, Within, world}
-
--- what this store does is what the requests' effects are, on what it holds; or memory is wanting, and it holds what it held
-abbrev pub IsExact : {S : Type 0} → (S → State) → Doing S → Type 0
-IsExact {S} holds does = (s t : S) (q : Request) (a : Answer) → does s q a t → Does (holds s) q a (holds t)
 
 module _ {S : Type 0} (does : Doing S) where
   -- every such step of a machine is at most n steps of the system, whatever the other machines make, if the store is exact

@@ -1,7 +1,8 @@
 // What is true of every step of a machine. Nothing runs here: the contracts are the theorems.
 ghost use Rattle.store.specs.Memories.{state_of};
 ghost use Rattle.days.specs.Promise.{Promised};
-ghost use Rattle.days.specs.Within.{AreSteps, IsExact};
+ghost use Rattle.days.specs.Within.{AreSteps};
+ghost use Rattle.store.specs.Asking.{IsExact};
 
 use store::{Memory, Store};
 

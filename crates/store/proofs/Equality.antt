@@ -13,7 +13,7 @@ use Rattle.store.specs.State.{same_day, same_listing, same_name}
 pub is_eq_nat : (x y : ℕ) → is_eq (nat_cmp x y) ≡ nat_eq x y
 is_eq_nat x y = grind (arith, nat_tests)
 
-is_eq_then : (p q : Ordering) → is_eq (ordering_then p q) ≡ (is_eq p && is_eq q)
+pub is_eq_then : (p q : Ordering) → is_eq (ordering_then p q) ≡ (is_eq p && is_eq q)
 is_eq_then Less q = refl
 is_eq_then Equal q = refl
 is_eq_then Greater q = refl

@@ -1,3 +1,4 @@
 pub mod Equality
+pub mod Exact
 pub mod States
 pub mod Tables

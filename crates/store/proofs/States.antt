@@ -1,13 +1,13 @@
 -- What the store in memory holds after a change: under one name, in one list, of one day or of one machine.
 -- Assumes nothing.
-use Rattle.std.proofs.Common.{◌≡◌, ℕ, ◌∙◌, ◌+◌, ◌<◌, ◌≤◌, arith, Bool, true, false, cond, List, Some, None, Option, refl, sym, ap, length}
+use Rattle.std.proofs.Common.{◌≡◌, ℕ, ◌∙◌, ◌+◌, ◌<◌, ◌≤◌, ◌&&◌, ◌||◌, arith, Bool, true, false, cond, List, [], ◌∷◌, Some, None, Option, refl, sym, ap, length}
 use Rattle.std.specs.BTreeMap as tree
 use Rattle.std.specs.BTreeMap.{BTreeMap, is_at}
 use Rattle.std.specs.BTreeSet as sorted
 use Rattle.std.specs.BTreeSet.{BTreeSet}
 use Rattle.std.specs.Map.{update, lookup}
 use Rattle.std.specs.Prelude.{is_some, nat_eq, nat_le, unwrap_or, vec_items, Vec}
-use Rattle.std.specs.List.{list_any}
+use Rattle.std.specs.List.{cons_option, filter_map, list_any}
 use Rattle.std.specs.Ordering.{nat_cmp}
 use Rattle.std.proofs.lemmas.Bool.Decides.{nat_tests}
 use Rattle.cutting.specs.declared.refusal.Refusal.TheVariants.{DayIsThere, TooManyNames, Unknown}
@@ -18,11 +18,11 @@ use Rattle.store.specs.declared.day.DayName.{DayName}
 use Rattle.store.specs.declared.listing.Listing.{Listing}
 use Rattle.store.specs.declared.memory.Copies.{Copies}
 use Rattle.store.specs.declared.memory.Memory.{Memory}
-use Rattle.store.specs.Effects.{effect, needs_memory, put_aside, put_back, with_aside, with_day, with_listing, with_place}
-use Rattle.store.specs.Requests.{Done, Enlist, LetGo, NameDay, PutAside, PutBack, Raise, Refused, ThrowAway, Told, Write}
+use Rattle.store.specs.Effects.{effect, enlist, needs_memory, put_aside, put_back, with_aside, with_day, with_listing, with_own, with_place}
+use Rattle.store.specs.Requests.{Done, LetGo, NameDay, PutAside, PutBack, Raise, Refused, ThrowAway, Told, Write}
 use Rattle.store.specs.Memories.{day_cmp, listing_cmp, name_cmp, state_of}
-use Rattle.store.proofs.Equality.{is_eq_nat, names_decide}
-use Rattle.store.specs.State.{State, most_names, same_day, same_listing, same_name}
+use Rattle.store.proofs.Equality.{is_eq_nat, is_eq_then, names_decide}
+use Rattle.store.specs.State.{State, is_in, most_names, same_day, same_listing, same_name}
 
 -- a choice that comes to the same
 cond_same : {A : Type 0} (b : Bool) (x y : A) → (b ≡ true → x ≡ y) → cond b x y ≡ y
@@ -125,26 +125,61 @@ same_pieces m p e = λ i. record (state_of m) {
   aside = λ q. aside_of (lookup (is_at (name_cmp q)) (e i));
 }
 
+-- a name that is to be added to a list: whether it is there already, what the store holds, and what it holds with the name
+module _ (there : Bool) (s t : State) where
+  pub is_enlisted : there ≡ true → enlist there s t ≡ (Done, s)
+  is_enlisted old = ap (λ b. enlist b s t) old
+
+  pub has_no_room : there ≡ false → most_names ≤ s.names → enlist there s t ≡ (Refused TooManyNames, s)
+  has_no_room new h =
+      let many : nat_le most_names s.names ≡ true = grind (arith, nat_tests) in
+      λ i. cond (new i) (Done, s) (cond (many i) (Refused TooManyNames, s) (Done, t))
+
+  pub has_enlisted : there ≡ false → s.names < most_names → (u : State) → t ≡ u → enlist there s t ≡ (Done, u)
+  has_enlisted new h u e =
+      let few : nat_le most_names s.names ≡ false = grind (arith, nat_tests) in
+      λ i. cond (new i) (Done, s) (cond (few i) (Refused TooManyNames, s) (Done, e i))
+
+-- where memory may be wanting
+pub wants_room : (there : Bool) (s : State) → there ≡ false → s.names < most_names → cond there false (cond (nat_le most_names s.names) false true) ≡ true
+wants_room there s new h =
+    let few : nat_le most_names s.names ≡ false = grind (arith, nat_tests) in
+    λ i. cond (new i) false (cond (few i) false true)
+
 -- the lists, after a name more is on one
 module _ (m : Memory) (ls : BTreeSet Listing) where
   pub same_lists : ls.keys ≡ m.listed.keys → state_of (record m { listed = ls }) ≡ state_of m
-  same_lists e = λ i. record (state_of m) { listed = λ l. list_any (is_at (listing_cmp l)) (e i); names = length (e i) }
+  same_lists e = λ i. record (state_of m) { listed = λ l. list_any (is_at (listing_cmp l)) (e i); names = length (e i) + length m.own.keys }
 
-  pub has_enlisted : (l : Listing) → sorted.contains listing_cmp m.listed l ≡ false → length m.listed.keys < most_names
-      → ((q : Listing) → sorted.contains listing_cmp ls q ≡ cond (same_listing l q) true (sorted.contains listing_cmp m.listed q)) → length ls.keys ≡ length m.listed.keys + 1
-      → effect (state_of m) (Enlist l) ≡ (Done, state_of (record m { listed = ls }))
-  has_enlisted l new room h n =
-      let s : State = state_of m in
-      let few : nat_le most_names s.names ≡ false = grind (arith, nat_tests) in
-      λ i. cond (new i) (Done, s) (cond (few i) (Refused TooManyNames, s) (Done, record s { listed = λ q. sym (h q) i; names = sym n i }))
+  pub after_listing : (l : Listing) → ((q : Listing) → sorted.contains listing_cmp ls q ≡ cond (same_listing l q) true (sorted.contains listing_cmp m.listed q))
+      → length ls.keys ≡ length m.listed.keys + 1 → with_listing l (state_of m) ≡ state_of (record m { listed = ls })
+  after_listing l h n =
+      let more : (length m.listed.keys + length m.own.keys) + 1 ≡ length ls.keys + length m.own.keys = omega arith in
+      λ i. record (state_of m) { listed = λ q. sym (h q) i; names = more i }
 
-pub is_enlisted : (s : State) (l : Listing) → s.listed l ≡ true → effect s (Enlist l) ≡ (Done, s)
-is_enlisted s l old = λ i. cond (old i) (Done, s) (cond (nat_le most_names s.names) (Refused TooManyNames, s) (Done, with_listing l s))
+module _ (m : Memory) (ns : BTreeSet Digest) where
+  pub same_own : ns.keys ≡ m.own.keys → state_of (record m { own = ns }) ≡ state_of m
+  same_own e = λ i. record (state_of m) { own = λ n. list_any (is_at (name_cmp n)) (e i); names = length m.listed.keys + length (e i) }
 
-pub has_no_room : (s : State) (l : Listing) → s.listed l ≡ false → most_names ≤ s.names → effect s (Enlist l) ≡ (Refused TooManyNames, s)
-has_no_room s l new h =
-    let many : nat_le most_names s.names ≡ true = grind (arith, nat_tests) in
-    λ i. cond (new i) (Done, s) (cond (many i) (Refused TooManyNames, s) (Done, with_listing l s))
+  pub after_own : (n : Digest) → ((q : Digest) → sorted.contains name_cmp ns q ≡ cond (same_name n q) true (sorted.contains name_cmp m.own q))
+      → length ns.keys ≡ length m.own.keys + 1 → with_own n (state_of m) ≡ state_of (record m { own = ns })
+  after_own n h e =
+      let more : (length m.listed.keys + length m.own.keys) + 1 ≡ length m.listed.keys + length ns.keys = omega arith in
+      λ i. record (state_of m) { own = λ q. sym (h q) i; names = more i }
+
+-- the names in the list of a machine
+abbrev pub name_in : ℕ → Listing → Option Digest
+name_in m l = cond (nat_eq m l.machine) (Some l.name) None
+
+is_in-if : (b : Bool) (n x : Digest) (ns : List Digest) → is_in n (cons_option (cond b (Some x) None) ns) ≡ ((b && same_name n x) || is_in n ns)
+is_in-if true n x ns = refl
+is_in-if false n x ns = refl
+
+pub is_in-names : (m : ℕ) (n : Digest) (ls : List Listing) → is_in n (filter_map (name_in m) ls) ≡ list_any (same_listing (record { machine = m; name = n })) ls
+is_in-names m n [] = refl
+is_in-names m n (l ∷ ls) =
+    let same : same_listing (record { machine = m; name = n }) l ≡ (nat_eq m l.machine && same_name n l.name) = is_eq_then (nat_cmp m l.machine) _ ∙ ap (λ b. b && same_name n l.name) (is_eq_nat m l.machine) in
+    is_in-if (nat_eq m l.machine) n l.name (filter_map (name_in m) ls) ∙ (λ i. sym same i || is_in-names m n ls i)
 
 -- the days, after one is named or let go
 module _ (m : Memory) (ds : BTreeMap DayName (Vec Digest Global)) (d : DayName) where
@@ -190,10 +225,5 @@ module _ (m : Memory) (hs : BTreeMap ℕ ℕ) where
       λ i. (Done, record (state_of m) { highest = λ q. sym (at q) i })
 
 -- where memory may be wanting
-pub wants_room : (s : State) (l : Listing) → s.listed l ≡ false → s.names < most_names → needs_memory s (Enlist l) ≡ true
-wants_room s l new room =
-    let few : nat_le most_names s.names ≡ false = grind (arith, nat_tests) in
-    λ i. cond (new i) false (cond (few i) false true)
-
 pub wants_day : (m : Memory) (d : DayName) (ps : List Digest) → is_some (tree.get day_cmp m.days d) ≡ false → needs_memory (state_of m) (NameDay d ps) ≡ true
 wants_day m d ps new = λ i. cond ((is_some_map (tree.get day_cmp m.days d) ∙ new) i) false true

@@ -14,7 +14,7 @@ use Rattle.store.specs.declared.contents.ListedDay.{ListedDay}
 use Rattle.store.specs.declared.day.DayName.{DayName}
 use Rattle.store.specs.declared.listing.Listing.{Listing}
 use Rattle.store.specs.Memories.{day_cmp, listing_cmp, name_cmp}
-use Rattle.store.specs.State.{State, same_listing}
+use Rattle.store.specs.State.{State, is_in, same_listing}
 
 -- a table of all that there is: each key once, in order, beside what there is at it, and no other key
 pub record Lists {K V : Type 0} (cmp : K → K → Ordering) (there : K → Option V) (table : List (K × V)) : Type 0 where
@@ -34,9 +34,15 @@ pub record ListsNames (listed : Listing → Bool) (xs : List Listing) : Type 0 w
   pub in_order : IsStrictlySortedBy listing_cmp xs
   pub all : (l : Listing) → list_any (same_listing l) xs ≡ listed l
 
+-- the names in the sweeper's list, likewise
+pub record ListsOwn (own : Digest → Bool) (xs : List Digest) : Type 0 where
+  pub in_order : IsStrictlySortedBy name_cmp xs
+  pub all : (n : Digest) → is_in n xs ≡ own n
+
 -- all pieces, names in lists and days of a store
 pub record ListsAll (s : State) (c : Contents) : Type 0 where
   pub place : ListsPieces s.place (vec_items c.place)
   pub aside : ListsPieces s.aside (vec_items c.aside)
   pub listed : ListsNames s.listed (vec_items c.listed)
+  pub own : ListsOwn s.own (vec_items c.own)
   pub days : ListsDays s.days (vec_items c.days)

@@ -1,3 +1,4 @@
+pub mod Asking
 pub mod Contents
 pub mod Effects
 pub mod Lines

@@ -1,6 +1,6 @@
 -- What the store in memory holds.
 -- Assumes nothing.
-use Rattle.std.specs.Prelude.{vec_items, length}
+use Rattle.std.specs.Prelude.{◌+◌, vec_items, length}
 use Rattle.std.specs.Option.{option_and_then, option_map, unwrap_or}
 use Rattle.std.specs.Cmp.Lexicographic.{slice_cmp}
 use Rattle.std.specs.Ordering.{nat_cmp, ordering_then}
@@ -30,8 +30,10 @@ state_of m =
       place = λ n. option_and_then (λ c. option_map vec_items c.place) (tree.get name_cmp m.pieces n);
       aside = λ n. option_and_then (λ c. option_map vec_items c.aside) (tree.get name_cmp m.pieces n);
       listed = λ l. sorted.contains listing_cmp m.listed l;
-      names = length m.listed.keys;
+      own = λ n. sorted.contains name_cmp m.own n;
+      names = length m.listed.keys + length m.own.keys;
       days = λ d. option_map vec_items (tree.get day_cmp m.days d);
       highest = λ i. unwrap_or (tree.get nat_cmp m.highest i) 0;
       machines = λ i. sorted.contains nat_cmp m.machines i;
+      sweep = m.sweep;
     }

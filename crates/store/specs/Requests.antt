@@ -8,6 +8,7 @@ use Rattle.digest.specs.declared.value.Digest.{Digest}
 use Rattle.store.specs.declared.day.DayName.{DayName}
 use Rattle.store.specs.declared.listing.Listing.{Listing}
 use Rattle.store.specs.declared.piece.Spot.{Spot}
+use Rattle.store.specs.declared.sweep.Sweep.{Sweep}
 
 -- what a machine or the sweeper asks for
 pub data Request : Type 0 where
@@ -30,6 +31,15 @@ pub data Request : Type 0 where
   NameDay : DayName → (pieces : List Digest) → Request
   -- let a day go
   LetGo : DayName → Request
+  -- the names in the list of a machine, and in the sweeper's; add a name to the sweeper's
+  NamesOf : (machine : ℕ) → Request
+  OwnNames : Request
+  EnlistOwn : (name : Digest) → Request
+  -- the pieces of a day
+  PiecesOf : DayName → Request
+  -- what is kept of what the sweeper does; and keep this
+  Kept : Request
+  Keep : Sweep → Request
 
 -- what it is told
 pub data Answer : Type 0 where
@@ -37,6 +47,9 @@ pub data Answer : Type 0 where
   Told : Bool → Answer
   Bytes : Option (List ℕ) → Answer
   Number : ℕ → Answer
+  Names : List Digest → Answer
+  Pieces : Option (List Digest) → Answer
+  Sweeping : Sweep → Answer
   -- refused, or failed
   Refused : Refusal → Answer
 
@@ -56,3 +69,15 @@ number (Err r) = Refused r
 abbrev pub bytes : Result (Option (Vec ℕ Global)) Refusal → Answer
 bytes (Ok v) = Bytes (option_map vec_items v)
 bytes (Err r) = Refused r
+
+abbrev pub names : Result (Vec Digest Global) Refusal → Answer
+names (Ok v) = Names (vec_items v)
+names (Err r) = Refused r
+
+abbrev pub pieces : Result (Option (Vec Digest Global)) Refusal → Answer
+pieces (Ok v) = Pieces (option_map vec_items v)
+pieces (Err r) = Refused r
+
+abbrev pub sweeping : Result Sweep Refusal → Answer
+sweeping (Ok x) = Sweeping x
+sweeping (Err r) = Refused r

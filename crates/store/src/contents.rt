@@ -1,6 +1,6 @@
 // What is in a store in memory, in order.
 ghost use Rattle.std.specs.Prelude.{IfOk, vec_items};
-ghost use Rattle.store.specs.Contents.{ListsAll, ListsDays, ListsNames, ListsPieces};
+ghost use Rattle.store.specs.Contents.{ListsAll, ListsDays, ListsNames, ListsOwn, ListsPieces};
 ghost use Rattle.store.specs.Effects.{lies};
 ghost use Rattle.store.specs.Memories.{state_of};
 
@@ -31,6 +31,8 @@ pub struct Contents {
     pub place: Vec<Lying>,
     pub aside: Vec<Lying>,
     pub listed: Vec<Listing>,
+    // the names in the sweeper's list
+    pub own: Vec<Digest>,
     pub days: Vec<ListedDay>,
 }
 
@@ -43,6 +45,7 @@ impl Memory {
             place: self.listed_pieces(Spot::Place)?,
             aside: self.listed_pieces(Spot::Aside)?,
             listed: self.listed_names()?,
+            own: self.own_list()?,
             days: self.listed_days()?,
         })
     }
@@ -71,6 +74,13 @@ impl Memory {
         ensures { IfOk result (λ found. ListsNames (state_of self.now).listed (vec_items found)) }
     {
         self.listed.iter().copied().collect(self.heap)
+    }
+
+    // The names in the sweeper's list.
+    pub(crate) fn own_list(&self) -> Result<Vec<Digest>, AllocError>
+        ensures { IfOk result (λ found. ListsOwn (state_of self.now).own (vec_items found)) }
+    {
+        self.own.iter().copied().collect(self.heap)
     }
 
     fn listed_days(&self) -> Result<Vec<ListedDay>, AllocError>

@@ -9,6 +9,7 @@ mod memory;
 mod names;
 mod piece;
 mod requests;
+mod sweep;
 #[cfg(test)]
 mod tests;
 mod texts;
@@ -22,3 +23,4 @@ pub use memory::Memory;
 pub use names::same_is_equality;
 pub use piece::{Spot, check_piece};
 pub use requests::Store;
+pub use sweep::{MACHINES, Noted, Sweep};

@@ -3,6 +3,7 @@ use crate::day::DayName;
 use crate::listing::Listing;
 use crate::piece::Spot;
 use crate::requests::Store;
+use crate::sweep::Sweep;
 use cutting::Refusal;
 use digest::Digest;
 use std::alloc::Global;
@@ -24,9 +25,12 @@ pub struct Memory {
     pub(crate) heap: Global,
     pub(crate) pieces: BTreeMap<Digest, Copies>,
     pub(crate) listed: BTreeSet<Listing>,
+    // the sweeper's list
+    pub(crate) own: BTreeSet<Digest>,
     pub(crate) days: BTreeMap<DayName, Vec<Digest>>,
     highest: BTreeMap<u8, u32>,
     machines: BTreeSet<u8>,
+    sweep: Sweep,
 }
 
 impl Store for Memory {
@@ -50,9 +54,7 @@ impl Store for Memory {
         if self.listed.contains(&listing) {
             return Ok(());
         }
-        if self.listed.len() >= MOST_NAMES {
-            return Err(Refusal::TooManyNames);
-        }
+        self.check_room()?;
         self.listed.insert(listing)?;
         Ok(())
     }
@@ -127,15 +129,54 @@ impl Store for Memory {
         };
         Ok(())
     }
+
+    fn names_of(&mut self, machine: u8) -> Result<Vec<Digest>, Refusal> {
+        let mut names = Vec::new(self.heap);
+        for listing in self.listed.iter() {
+            if listing.machine == machine {
+                names.push(listing.name)?;
+            }
+        }
+        Ok(names)
+    }
+
+    fn own_names(&mut self) -> Result<Vec<Digest>, Refusal> {
+        Ok(self.own_list()?)
+    }
+
+    fn enlist_own(&mut self, name: Digest) -> Result<(), Refusal> {
+        if self.own.contains(&name) {
+            return Ok(());
+        }
+        self.check_room()?;
+        self.own.insert(name)?;
+        Ok(())
+    }
+
+    fn pieces_of(&mut self, day: DayName) -> Result<Option<Vec<Digest>>, Refusal> {
+        match self.days.get(&day) {
+            Some(pieces) => Ok(Some(Vec::from_slice(self.heap, pieces)?)),
+            None => Ok(None),
+        }
+    }
+
+    fn kept(&mut self) -> Result<Sweep, Refusal> {
+        Ok(self.sweep)
+    }
+
+    fn keep(&mut self, sweep: Sweep) -> Result<(), Refusal> {
+        self.sweep = sweep;
+        Ok(())
+    }
 }
 
 impl Memory {
-    ghost use Rattle.std.specs.Prelude.{◌≡◌, MatchResult};
+    ghost use Rattle.std.specs.Prelude.{◌≡◌, ◌<◌, ◌≤◌, true, false, IfOk, IfErr, MatchResult};
     ghost use Rattle.std.specs.Option.{option_map};
-    ghost use Rattle.cutting.specs.declared.refusal.Refusal.TheVariants.{NoMemory};
-    ghost use Rattle.store.specs.Effects.{lies};
+    ghost use Rattle.cutting.specs.declared.refusal.Refusal.TheVariants.{NoMemory, TooManyNames, Unknown};
+    ghost use Rattle.store.specs.Effects.{lies, without_machine};
     ghost use Rattle.store.specs.Memories.{state_of};
-    ghost use Rattle.store.specs.State.{empty};
+    ghost use Rattle.store.specs.State.{empty, most_names};
 
     // What lies there under a name.
     fn lying(&self, spot: Spot, name: Digest) -> Option<&Vec<u8>>
@@ -146,6 +187,35 @@ impl Memory {
             Spot::Place => copies.place.as_ref(),
             Spot::Aside => copies.aside.as_ref(),
         }
+    }
+
+    // Is there room for a name more in the lists?
+    fn check_room(&self) -> Result<(), Refusal>
+        ensures { MatchResult result (λ _. (state_of self.now).names < most_names) (λ r. (most_names ≤ (state_of self.now).names) × (r ≡ TooManyNames)) }
+    {
+        if self.listed.len().saturating_add(self.own.len()) >= MOST_NAMES {
+            return Err(Refusal::TooManyNames);
+        }
+        Ok(())
+    }
+
+    // Takes a machine off the list of machines, for good. A person does so.
+    pub fn take_off(&mut self, machine: u8) -> Result<(), Refusal>
+        ensures done { IfOk result (λ _. ((state_of self.old).machines machine ≡ true) × (state_of self.new ≡ without_machine machine (state_of self.old))) }
+        ensures refused { IfErr result (λ r. (r ≡ Unknown) × ((state_of self.old).machines machine ≡ false) × (self.new ≡ self.old)) }
+    {
+        if self.machines.remove(&machine) {
+            Ok(())
+        } else {
+            Err(Refusal::Unknown)
+        }
+    }
+
+    // Is this machine on the list?
+    pub fn is_listed(&self, machine: u8) -> bool
+        ensures { result ≡ (state_of self.now).machines machine }
+    {
+        self.machines.contains(&machine)
     }
 
     // The highest number that a machine ever raised, or 0.
@@ -167,9 +237,11 @@ impl Memory {
             heap,
             pieces: BTreeMap::new(heap),
             listed: BTreeSet::new(heap),
+            own: BTreeSet::new(heap),
             days: BTreeMap::new(heap),
             highest: BTreeMap::new(heap),
             machines: listed,
+            sweep: Sweep::Rests,
         })
     }
 }

@@ -1,11 +1,12 @@
 // What a store is asked for.
 ghost use Rattle.std.specs.Prelude.{List};
-ghost use Rattle.store.specs.Requests.{Request, Answer, done, told, number, bytes};
+ghost use Rattle.store.specs.Requests.{Request, Answer, done, told, number, bytes, names, pieces, sweeping};
 ghost use Rattle.store.specs.Requests as request;
 
 use crate::day::DayName;
 use crate::listing::Listing;
 use crate::piece::Spot;
+use crate::sweep::Sweep;
 use cutting::Refusal;
 use digest::Digest;
 
@@ -57,4 +58,28 @@ pub trait Store {
     // Lets a day go.
     fn let_go(&mut self, day: DayName) -> Result<(), Refusal>
         ensures { does self.old (request.LetGo day) (done result) self.new };
+
+    // The names in the list of a machine, in any order.
+    fn names_of(&mut self, machine: u8) -> Result<Vec<Digest>, Refusal>
+        ensures { does self.old (request.NamesOf machine) (names result) self.new };
+
+    // The names in the list of the sweeper, in any order.
+    fn own_names(&mut self) -> Result<Vec<Digest>, Refusal>
+        ensures { does self.old request.OwnNames (names result) self.new };
+
+    // Adds a name to the list of the sweeper.
+    fn enlist_own(&mut self, name: Digest) -> Result<(), Refusal>
+        ensures { does self.old (request.EnlistOwn name) (done result) self.new };
+
+    // The pieces of a day, in their order, if there is such a day.
+    fn pieces_of(&mut self, day: DayName) -> Result<Option<Vec<Digest>>, Refusal>
+        ensures { does self.old (request.PiecesOf day) (pieces result) self.new };
+
+    // What is kept of what the sweeper does.
+    fn kept(&mut self) -> Result<Sweep, Refusal>
+        ensures { does self.old request.Kept (sweeping result) self.new };
+
+    // Keeps this of what the sweeper does.
+    fn keep(&mut self, sweep: Sweep) -> Result<(), Refusal>
+        ensures { does self.old (request.Keep sweep) (done result) self.new };
 }

@@ -1,5 +1,5 @@
 // That each request is done where there is memory, since no contract can say when there is.
-use crate::{DayName, Listing, Memory, Refusal, Spot, Store};
+use crate::{DayName, Listing, Memory, Noted, Refusal, Spot, Store, Sweep};
 use digest::{Digest, sha256};
 use std::test::Fail;
 
@@ -14,6 +14,22 @@ fn lies<S: Store>(store: &mut S, spot: Spot, name: Digest, bytes: &[u8]) -> bool
 // Does nothing lie there?
 fn is_empty<S: Store>(store: &mut S, spot: Spot, name: Digest) -> bool {
     matches!(store.read(spot, name), Ok(None))
+}
+
+// Are just these names told, in this order?
+fn are(told: Result<Vec<Digest>, Refusal>, names: &[Digest]) -> bool {
+    match told {
+        Ok(found) => found.as_slice() == names,
+        Err(_) => false,
+    }
+}
+
+// Has this day just these pieces?
+fn has_pieces<S: Store>(store: &mut S, day: DayName, names: &[Digest]) -> bool {
+    match store.pieces_of(day) {
+        Ok(Some(pieces)) => pieces.as_slice() == names,
+        _ => false,
+    }
 }
 
 #[test]
@@ -69,13 +85,78 @@ fn days_are_named_and_let_go(rt: HostRuntime) -> Result<(), Fail> {
     assert!(rt; store.highest(7) == Ok(0), "no number yet");
     assert!(rt; store.raise(7, 1).is_ok(), "raised");
     assert!(rt; store.highest(7) == Ok(1), "its number");
+    assert!(rt; matches!(store.pieces_of(day), Ok(None)), "no such day");
     assert!(rt; store.name_day(day, &[name]).is_ok(), "named");
+    assert!(rt; has_pieces(&mut store, day, &[name]), "its pieces");
     assert!(rt;
         store.name_day(day, &[]) == Err(Refusal::DayIsThere),
         "its name is taken"
     );
     assert!(rt; store.let_go(day).is_ok(), "let go");
     assert!(rt; store.let_go(day) == Err(Refusal::Unknown), "not there");
+    Ok(())
+}
+
+#[test]
+fn lists_are_told(rt: HostRuntime) -> Result<(), Fail> {
+    let Ok(mut store) = Memory::new(rt.alloc(), &[7, 8]) else {
+        return Err(Fail::new("no store"));
+    };
+    let (name, other) = (sha256(b"abc"), sha256(b"abcd"));
+    assert!(rt;
+        are(store.names_of(7), &[]) && are(store.own_names(), &[]),
+        "nothing yet"
+    );
+    assert!(rt;
+        store.enlist(Listing { machine: 7, name }).is_ok()
+            && store
+                .enlist(Listing {
+                    machine: 8,
+                    name: other
+                })
+                .is_ok(),
+        "in the lists of machines"
+    );
+    assert!(rt;
+        store.enlist_own(other).is_ok() && store.enlist_own(other).is_ok(),
+        "in the list of the sweeper"
+    );
+    assert!(rt;
+        are(store.names_of(7), &[name]) && are(store.names_of(8), &[other]),
+        "each machine's"
+    );
+    assert!(rt; are(store.own_names(), &[other]), "the sweeper's");
+    Ok(())
+}
+
+#[test]
+fn machines_are_taken_off(rt: HostRuntime) -> Result<(), Fail> {
+    let Ok(mut store) = Memory::new(rt.alloc(), &[7, 8]) else {
+        return Err(Fail::new("no store"));
+    };
+    assert!(rt; store.take_off(7).is_ok(), "taken off");
+    assert!(rt;
+        !store.is_listed(7) && store.is_listed(8),
+        "one machine less"
+    );
+    assert!(rt; store.take_off(7) == Err(Refusal::Unknown), "not there");
+    Ok(())
+}
+
+#[test]
+fn what_the_sweeper_does_is_kept(rt: HostRuntime) -> Result<(), Fail> {
+    let Ok(mut store) = Memory::new(rt.alloc(), &[]) else {
+        return Err(Fail::new("no store"));
+    };
+    assert!(rt; matches!(store.kept(), Ok(Sweep::Rests)), "it rests");
+    let noted = Noted { highest: [3; 64] };
+    assert!(rt; store.keep(Sweep::Waits(noted)).is_ok(), "it waits");
+    let Ok(Sweep::Waits(found)) = store.kept() else {
+        return Err(Fail::new("it does not wait"));
+    };
+    assert!(rt; found.highest == [3; 64], "what it noted");
+    assert!(rt; store.keep(Sweep::Ends).is_ok(), "it ends");
+    assert!(rt; matches!(store.kept(), Ok(Sweep::Ends)), "it has ended");
     Ok(())
 }
 
@@ -102,6 +183,7 @@ fn contents_are_listed(rt: HostRuntime) -> Result<(), Fail> {
         store.enlist(listing).is_ok() && store.name_day(day, &[kept]).is_ok(),
         "a day"
     );
+    assert!(rt; store.enlist_own(aside).is_ok(), "in the sweeper's list");
     let Ok(contents) = store.contents() else {
         return Err(Fail::new("no contents"));
     };
@@ -120,6 +202,10 @@ fn contents_are_listed(rt: HostRuntime) -> Result<(), Fail> {
     assert!(rt;
         contents.listed.as_slice() == [listing].as_slice(),
         "in a list"
+    );
+    assert!(rt;
+        contents.own.as_slice() == [aside].as_slice(),
+        "in the sweeper's list"
     );
     assert!(rt;
         contents.days.len() == 1
