@@ -1,0 +1,16 @@
+pub mod Absurd
+pub mod Adding
+pub mod Checked
+pub mod Divided
+pub mod Finished
+pub mod Found
+pub mod Kept
+pub mod Loops
+pub mod Moves
+pub mod Numbers
+pub mod Pieces
+pub mod Reading
+pub mod Told
+pub mod Unused
+pub mod Used
+pub mod Within

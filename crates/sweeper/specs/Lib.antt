@@ -1,0 +1,9 @@
+pub mod Looking
+pub mod Loops
+pub mod Pieces
+pub mod Promise
+pub mod Steps
+pub mod Sweepers
+pub mod System
+pub mod Texts
+pub mod Within
