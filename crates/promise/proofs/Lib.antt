@@ -1,0 +1,15 @@
+pub mod Alone
+pub mod Bounds
+pub mod CasesPlay
+pub mod CasesRows
+pub mod CasesSweeps
+pub mod CasesZeros
+pub mod Finite
+pub mod Kept
+pub mod Names
+pub mod Numbers
+pub mod Rounds
+pub mod Safe
+pub mod Spares
+pub mod Sweeps
+pub mod Way

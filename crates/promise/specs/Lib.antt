@@ -1,0 +1,4 @@
+pub mod Cases
+pub mod Promise
+pub mod Runs
+pub mod System
