@@ -1,3 +1,5 @@
+pub mod InSystem
 mod Lists
 mod Machines
-pub mod InSystem
+pub mod Reached
+pub mod Refused

@@ -1,4 +1,4 @@
--- What a machine does on the store in memory.
+-- What a machine and the sweeper do on the store in memory.
 -- Assumes nothing.
 use Rattle.std.specs.Prelude.{◌≡◌, ◌⊎◌, ℕ, ◌<◌, ◌≤◌, length, Err, Option, Result}
 use Rattle.cutting.specs.declared.refusal.Refusal.{Refusal}
@@ -9,11 +9,16 @@ use Rattle.store.specs.Effects.{Does}
 use Rattle.store.specs.Memories.{state_of}
 use Rattle.store.specs.State.{most_in_piece}
 use Rattle.days.specs.declared.done.Done.{Done}
-use Rattle.days.specs.Asking.{Doing}
+use Rattle.store.specs.Asking.{Doing}
 use Rattle.days.specs.Machines.{Work}
 use Rattle.days.specs.Steps.{Begins, Breaks, Names, Raises, Sees}
+use Rattle.sweeper.specs.declared.done.Done as swept
+use Rattle.sweeper.specs.Steps.{Decides, Looks, Nexts, Notes, PutsAside}
+use Rattle.sweeper.specs.Sweepers.{Sweeping}
 use Rattle.rehearsal.specs.declared.step.Act.{Act}
 use Rattle.rehearsal.specs.declared.step.Act.TheVariants as act
+use Rattle.rehearsal.specs.declared.step.Move.{Move}
+use Rattle.rehearsal.specs.declared.step.Move.TheVariants as move
 
 -- the store in memory does what its requests' effects are, or memory is wanting
 abbrev pub memory_does : Doing Memory
@@ -27,6 +32,14 @@ TooLong other = ⊥
 abbrev pub Fits : Act → Type 0
 Fits (act.See m) = length (bytes_of m) ≤ most_in_piece
 Fits other = Unit {0}
+
+-- the sweeper does this, which leads the store from s to t; it does `old` before it and `new` after it
+abbrev pub SweepsAs : Move → Sweeping → Memory → Result swept.Done Refusal → Sweeping → Memory → Type 0
+SweepsAs move.Look old s a new t = Looks memory_does old s a new t
+SweepsAs move.Aside old s a new t = PutsAside memory_does old s a new t
+SweepsAs move.Note old s a new t = Notes memory_does old s a new t
+SweepsAs move.Decide old s a new t = Decides memory_does old s a new t
+SweepsAs move.Next old s a new t = Nexts memory_does old s a new t
 
 -- machine i does this, which leads the store from s to t; it makes `old` before it and `new` after it. There may be no memory for the bytes of a piece.
 abbrev pub Acts : Act → ℕ → Option Work → Memory → Result Done Refusal → Option Work → Memory → Type 0

@@ -7,6 +7,7 @@ use Rattle.cutting.specs.declared.refusal.Refusal.TheVariants.{NoMemory}
 use Rattle.digest.specs.Digests.{digest_of}
 use Rattle.script.specs.Messages.{bytes_of}
 use Rattle.store.specs.Memories.{state_of}
+use Rattle.sweeper.specs.Sweepers.{sweeping}
 use Rattle.rehearsal.specs.declared.answer.Answer.{Answer}
 use Rattle.rehearsal.specs.declared.answer.Answer.TheVariants as answer
 use Rattle.rehearsal.specs.declared.line.LineFault.{LineFault}
@@ -18,9 +19,9 @@ use Rattle.rehearsal.specs.declared.world.World.{World}
 use Rattle.rehearsal.specs.Listings.{Lists}
 use Rattle.rehearsal.specs.Shows.{Shows}
 use Rattle.rehearsal.specs.Steps.{Passes, StepRead}
-use Rattle.rehearsal.specs.Worlds.{ActsIn, LetsGo}
+use Rattle.rehearsal.specs.Worlds.{ActsIn, LetsGo, Parts, Stops, Sweeps}
 
--- what a step answers, and what it leaves of the world w: the digest of bytes, or the list of their pieces; what a machine has done; that a day is let go; what is where; or why that is refused
+-- what a step answers, and what it leaves of the world w: the digest of bytes, or the list of their pieces; what a machine or the sweeper has done; that a day is let go, a machine gone, the sweeper stopped; what is where; or why that is refused
 abbrev pub Plays : Step → World → Result Answer Refusal → World → Type 0
 Plays (step.Digest m) w (Ok (answer.Digest d)) v = (d ≡ digest_of (bytes_of m)) × (v ≡ w)
 Plays (step.Cut m) w (Ok (answer.Pieces x)) v = Lists (bytes_of m) (Ok x) × (v ≡ w)
@@ -29,7 +30,13 @@ Plays (step.Machine i act) w (Ok (answer.Done d)) v = ActsIn act i w (Ok d) v
 Plays (step.Machine i act) w (Err r) v = ActsIn act i w (Err r) v
 Plays (step.LetGo i k) w (Ok answer.LetGo) v = LetsGo i k w (Ok tt) v
 Plays (step.LetGo i k) w (Err r) v = LetsGo i k w (Err r) v
-Plays step.Show w (Ok (answer.Shown x)) v = Shows (state_of w.store) (vec_items w.machines) x × (v ≡ w)
+Plays (step.Part i) w (Ok answer.Parted) v = Parts i w (Ok tt) v
+Plays (step.Part i) w (Err r) v = Parts i w (Err r) v
+Plays (step.Sweeper m) w (Ok (answer.Swept d)) v = Sweeps m w (Ok d) v
+Plays (step.Sweeper m) w (Err r) v = Sweeps m w (Err r) v
+Plays step.Stop w (Ok answer.Stopped) v = Stops w (Ok tt) v
+Plays step.Stop w (Err r) v = Stops w (Err r) v
+Plays step.Show w (Ok (answer.Shown x)) v = Shows (state_of w.store) (vec_items w.machines) (sweeping w.sweeper) x × (v ≡ w)
 Plays step.Show w (Err r) v = (r ≡ NoMemory) × (v ≡ w)
 Plays _ _ _ _ = ⊥
 

@@ -12,6 +12,7 @@ use Rattle.script.specs.Readings.{NumberRead}
 use Rattle.rehearsal.specs.declared.name.StepName.{StepName}
 use Rattle.rehearsal.specs.declared.name.StepName.TheVariants as name
 use Rattle.rehearsal.specs.declared.step.Act.TheVariants as act
+use Rattle.rehearsal.specs.declared.step.Move.TheVariants as move
 use Rattle.rehearsal.specs.declared.step.Step.{Step}
 use Rattle.rehearsal.specs.declared.step.Step.TheVariants as step
 use Rattle.rehearsal.specs.Names.{NoName, Wrong, name_text}
@@ -42,10 +43,10 @@ Goes w (Ok p) = TwoWords w × NumberWord (first w) (Ok p.0) × NumberWord (secon
 Goes w (Err f) =
     ((TwoWords w → ⊥) × Wrong name.Go f) ⊎ (TwoWords w × (NumberWord (first w) (Err f) ⊎ ((m : ℕ) × NumberWord (first w) (Ok m) × NumberWord (second w) (Err f))))
 
--- the words of `show`: none
-abbrev pub NoWords : List ℕ → Result (Unit {0}) Fault → Type 0
-NoWords w (Ok x) = first w ≡ []
-NoWords w (Err f) = (0 < length (first w)) × Wrong name.Show f
+-- a step that has no words
+abbrev pub Alone : Step → StepName → List ℕ → Result Step Fault → Type 0
+Alone sole n w (Ok s) = (first w ≡ []) × (s ≡ sole)
+Alone sole n w (Err f) = (0 < length (first w)) × Wrong n f
 
 -- a step that is made of what its words are read as
 abbrev pub Makes : {A : Type 0} → (A → Step) → (List ℕ → Result A Fault → Type 0) → List ℕ → Result Step Fault → Type 0
@@ -62,7 +63,14 @@ ReadAs name.Raise w r = Makes (λ m. step.Machine m act.Raise) (OfMachine name.R
 ReadAs name.Name w r = Makes (λ m. step.Machine m act.Name) (OfMachine name.Name) w r
 ReadAs name.Break w r = Makes (λ m. step.Machine m act.Break) (OfMachine name.Break) w r
 ReadAs name.Go w r = Makes (λ p. step.LetGo p.0 p.1) Goes w r
-ReadAs name.Show w r = Makes (λ x. step.Show) NoWords w r
+ReadAs name.Part w r = Makes step.Part (OfMachine name.Part) w r
+ReadAs name.Look w r = Alone (step.Sweeper move.Look) name.Look w r
+ReadAs name.Aside w r = Alone (step.Sweeper move.Aside) name.Aside w r
+ReadAs name.Note w r = Alone (step.Sweeper move.Note) name.Note w r
+ReadAs name.Decide w r = Alone (step.Sweeper move.Decide) name.Decide w r
+ReadAs name.Next w r = Alone (step.Sweeper move.Next) name.Next w r
+ReadAs name.Stop w r = Alone step.Stop name.Stop w r
+ReadAs name.Show w r = Alone step.Show name.Show w r
 
 -- the first word is no step's name; want of memory may come in the place of the words that say so
 abbrev pub NameBlamed : List ℕ → Fault → Type 0

@@ -4,6 +4,7 @@ use Rattle.std.specs.Prelude.{ℕ, List, ◌++◌, codes, decimal, vec_items, ve
 use Rattle.cutting.specs.Refusals.{refusal_text}
 use Rattle.digest.specs.Hex.{hex}
 use Rattle.days.specs.Texts.{done_text}
+use Rattle.sweeper.specs.Texts as swept
 use Rattle.script.specs.Faults.{fault_text}
 use Rattle.rehearsal.specs.declared.answer.Answer.{Answer}
 use Rattle.rehearsal.specs.declared.answer.Answer.TheVariants as answer
@@ -13,12 +14,15 @@ use Rattle.rehearsal.specs.declared.unplayed.Unplayed.TheVariants as unplayed
 use Rattle.rehearsal.specs.Listings.{lines_text}
 use Rattle.rehearsal.specs.Shows.{shown_text}
 
--- what is written for a step: a digest's digits; how many pieces there are and a line for each; what a machine has done; what is where
+-- what is written for a step: a digest's digits; how many pieces there are and a line for each; what a machine or the sweeper has done; what is where
 abbrev pub answer_text : Answer → List ℕ
 answer_text (answer.Digest d) = hex d.bytes
 answer_text (answer.Pieces v) = codes "pieces " ++ (decimal (vec_len v) ++ lines_text (vec_items v))
 answer_text (answer.Done d) = done_text d
 answer_text answer.LetGo = codes "let go"
+answer_text answer.Parted = codes "parted"
+answer_text (answer.Swept d) = swept.done_text d
+answer_text answer.Stopped = codes "stopped"
 answer_text (answer.Shown s) = shown_text s
 
 -- why a line is not played

@@ -18,6 +18,12 @@ pub enum Answer {
     Done(Done),
     // a day is let go
     LetGo,
+    // a machine is off the list
+    Parted,
+    // what the sweeper has done
+    Swept(sweeper::Done),
+    // the sweeper has come up again
+    Stopped,
     // what is where
     Shown(Shown),
 }
@@ -34,6 +40,9 @@ impl fmt::Display for Answer {
             }
             Answer::Done(done) => write!(f, "{done}"),
             Answer::LetGo => write!(f, "let go"),
+            Answer::Parted => write!(f, "parted"),
+            Answer::Swept(done) => write!(f, "{done}"),
+            Answer::Stopped => write!(f, "stopped"),
             Answer::Shown(shown) => write!(f, "{shown}"),
         }
     }

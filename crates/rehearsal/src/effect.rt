@@ -33,6 +33,15 @@ impl Step {
                 world.let_go(machine, number)?;
                 Ok(Answer::LetGo)
             }
+            Step::Part(machine) => {
+                world.part(machine)?;
+                Ok(Answer::Parted)
+            }
+            Step::Sweeper(turn) => Ok(Answer::Swept(world.sweep(turn)?)),
+            Step::Stop => {
+                world.stop()?;
+                Ok(Answer::Stopped)
+            }
             Step::Show => Ok(Answer::Shown(world.show()?)),
         }
     }

@@ -1,6 +1,6 @@
 // The names of the steps, and how their lines are written.
 ghost use Rattle.std.specs.Prelude.{◌≡◌, MatchOption};
-ghost use Rattle.rehearsal.specs.Names.{NoName, Wrong, line_text, name_text};
+ghost use Rattle.rehearsal.specs.Names.{NoName, SweeperCalled, Wrong, line_text, name_text};
 
 use script::{Fault, is_word};
 
@@ -14,6 +14,13 @@ pub enum StepName {
     Name,
     Break,
     Go,
+    Part,
+    Look,
+    Aside,
+    Note,
+    Decide,
+    Next,
+    Stop,
     Show,
 }
 
@@ -46,8 +53,36 @@ impl StepName {
         if is_word(word, b"go") {
             return Some(StepName::Go);
         }
+        if is_word(word, b"part") {
+            return Some(StepName::Part);
+        }
         if is_word(word, b"show") {
             return Some(StepName::Show);
+        }
+        StepName::of_sweeper(word)
+    }
+
+    // The step of the sweeper that is called so.
+    fn of_sweeper(word: &[u8]) -> Option<StepName>
+        ensures { SweeperCalled word.now result }
+    {
+        if is_word(word, b"look") {
+            return Some(StepName::Look);
+        }
+        if is_word(word, b"aside") {
+            return Some(StepName::Aside);
+        }
+        if is_word(word, b"note") {
+            return Some(StepName::Note);
+        }
+        if is_word(word, b"decide") {
+            return Some(StepName::Decide);
+        }
+        if is_word(word, b"next") {
+            return Some(StepName::Next);
+        }
+        if is_word(word, b"stop") {
+            return Some(StepName::Stop);
         }
         None
     }
@@ -65,6 +100,13 @@ impl StepName {
             StepName::Name => "name M",
             StepName::Break => "break M",
             StepName::Go => "go M N",
+            StepName::Part => "part M",
+            StepName::Look => "look",
+            StepName::Aside => "aside",
+            StepName::Note => "note",
+            StepName::Decide => "decide",
+            StepName::Next => "next",
+            StepName::Stop => "stop",
             StepName::Show => "show",
         }
     }

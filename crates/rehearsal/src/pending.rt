@@ -4,10 +4,10 @@ ghost use Rattle.std.specs.Result.{ForOk};
 ghost use Rattle.rehearsal.specs.Answers.{chomped, most};
 ghost use Rattle.rehearsal.specs.Unkepts.{IsUnkept};
 
-use crate::line::{LineAnswer, LineFault, answer_line};
+use crate::line::{LineAnswer, LineFault};
+use crate::rehearsal::Rehearsal;
 use crate::unkept::Unkept;
 use crate::unplayed::Unplayed;
-use crate::world::World;
 use script::Fault;
 use std::alloc::Global;
 
@@ -79,15 +79,15 @@ impl Pending {
     }
 
     // Ends the line, answers it, and begins the next one, in the same memory where this one was kept.
-    pub fn end(&mut self, world: &mut World) -> LineAnswer
+    pub fn end(&mut self, rehearsal: &mut Rehearsal) -> LineAnswer
         ensures ended { self.new.ended ≡ (self.old.ended + 1) % 2 ^ 64 }
-        ensures answer { (l : List ℕ) → Holds self.old l → LineAnswers self.new.ended l world.old result world.new }
+        ensures answer { (l : List ℕ) → Holds self.old l → LineAnswers self.new.ended l rehearsal.old.world result rehearsal.new.world }
         ensures line { Holds self.new [] }
     {
         let number = self.ended.wrapping_add(1);
         let answer = match &mut self.line {
             Ok(line) => {
-                let answer = answer_line(self.heap, world, number, without_return(line));
+                let answer = rehearsal.answer(self.heap, number, without_return(line));
                 line.clear();
                 answer
             }
@@ -102,9 +102,9 @@ impl Pending {
     }
 
     // Takes in a part of the script up to its first newline, and with it. None where no line ends in the part, which is taken in whole then.
-    pub fn take_in<'a>(&mut self, world: &mut World, part: &'a [u8]) -> Option<Answered<'a>>
+    pub fn take_in<'a>(&mut self, rehearsal: &mut Rehearsal, part: &'a [u8]) -> Option<Answered<'a>>
         ensures shorter { IfSome result (λ a. length a.after.now < length part.now) }
-        ensures taken { (l : List ℕ) → Holds self.old l → TakesIn l self.old.ended part.now world.old result self.new world.new }
+        ensures taken { (l : List ℕ) → Holds self.old l → TakesIn l self.old.ended part.now rehearsal.old.world result self.new rehearsal.new.world }
     {
         let Some(end) = part.iter().position(|b| *b == b'\n') else {
             self.extend(part);
@@ -112,7 +112,7 @@ impl Pending {
         };
         self.extend(&part[..end]);
         Some(Answered {
-            answer: self.end(world),
+            answer: self.end(rehearsal),
             after: &part[end + 1..],
         })
     }

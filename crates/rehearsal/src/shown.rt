@@ -1,7 +1,7 @@
 // What `show` answers: what is where.
 ghost use Rattle.std.specs.Prelude.{Some};
 ghost use Rattle.std.specs.Fmt.{WritesOnOk};
-ghost use Rattle.rehearsal.specs.Shows.{lists_text, machine_text, machines_text, pieces_text, shown_text};
+ghost use Rattle.rehearsal.specs.Shows.{lists_text, machine_text, machines_text, pieces_text, shown_text, sweeper_text, turns_text};
 
 use digest::Digest;
 use std::fmt;
@@ -14,18 +14,33 @@ pub struct ShownDay {
     pub pieces: Vec<Digest>,
 }
 
-// A machine, its highest number, and what it makes.
+// A machine, its highest number, whether it is on the list, and what it makes.
 #[derive(Drop)]
 pub struct ShownMachine {
     pub number: u8,
     pub highest: u32,
+    pub on_list: bool,
     pub makes: Option<ShownDay>,
+}
+
+// What the sweeper does.
+#[derive(Drop)]
+pub enum ShownSweeper {
+    Rests,
+    // these are left
+    PutsAside(Vec<Digest>),
+    // it has noted these numbers of the machines
+    Waits([u32; 4]),
+    // these go back, and these away
+    Ends(Vec<Digest>, Vec<Digest>),
+    DecidesAnew,
 }
 
 #[derive(Drop)]
 pub struct Shown {
     pub contents: Contents,
     pub machines: Vec<ShownMachine>,
+    pub sweeper: ShownSweeper,
 }
 
 impl fmt::Display for ShownMachine {
@@ -33,6 +48,9 @@ impl fmt::Display for ShownMachine {
 
     fn fmt<W: fmt::Write>(&self, f: &mut fmt::Formatter<W>) -> fmt::Result {
         write!(f, "machine {} {} ", self.number, self.highest)?;
+        if !self.on_list {
+            return write!(f, "parted");
+        }
         let Some(day) = &self.makes else {
             return write!(f, "none");
         };
@@ -42,6 +60,40 @@ impl fmt::Display for ShownMachine {
         }
         write_each(" ", &day.pieces, "", f)
     }
+}
+
+impl fmt::Display for ShownSweeper {
+    ghost output = { λ s. Some (sweeper_text s) };
+
+    fn fmt<W: fmt::Write>(&self, f: &mut fmt::Formatter<W>) -> fmt::Result {
+        match self {
+            ShownSweeper::Rests => write!(f, "sweeper rests"),
+            ShownSweeper::PutsAside(left) => {
+                write!(f, "sweeper puts aside")?;
+                write_each(" ", left, "", f)
+            }
+            ShownSweeper::Waits(numbers) => {
+                write!(f, "sweeper waits")?;
+                write_each(" ", numbers.as_slice(), "", f)
+            }
+            ShownSweeper::Ends(back, away) => write_turns(back, away, f),
+            ShownSweeper::DecidesAnew => write!(f, "sweeper is to decide anew"),
+        }
+    }
+}
+
+// What is to be put back and thrown away.
+fn write_turns<W: fmt::Write>(
+    back: &[Digest],
+    away: &[Digest],
+    f: &mut fmt::Formatter<W>,
+) -> fmt::Result
+    ensures { WritesOnOk W.Write.write_str_gives f.old result (turns_text back.now away.now) f.new }
+{
+    write!(f, "sweeper ends, back")?;
+    write_each(" ", back, "", f)?;
+    write!(f, ", away")?;
+    write_each(" ", away, "", f)
 }
 
 // A line for each piece.
@@ -57,6 +109,7 @@ fn write_lists<W: fmt::Write>(contents: &Contents, f: &mut fmt::Formatter<W>) ->
     ensures { WritesOnOk W.Write.write_str_gives f.old result (lists_text contents.now) f.new }
 {
     write_each("listed ", &contents.listed, "\n", f)?;
+    write_each("listed sweeper ", &contents.own, "\n", f)?;
     write_each("day ", &contents.days, "\n", f)
 }
 
@@ -80,6 +133,7 @@ impl fmt::Display for Shown {
     fn fmt<W: fmt::Write>(&self, f: &mut fmt::Formatter<W>) -> fmt::Result {
         write_pieces(&self.contents, f)?;
         write_lists(&self.contents, f)?;
-        write_machines(&self.machines, f)
+        write_machines(&self.machines, f)?;
+        write!(f, "\n{}", self.sweeper)
     }
 }

@@ -1,6 +1,6 @@
 // A line of the script as a step to play.
 ghost use Rattle.std.specs.Prelude.{◌≡◌};
-ghost use Rattle.rehearsal.specs.Steps.{Goes, NoWords, OfMachine, ReadAs, SeesWords, StepRead};
+ghost use Rattle.rehearsal.specs.Steps.{Alone, Goes, OfMachine, ReadAs, SeesWords, StepRead};
 
 use crate::name::StepName;
 use script::{Fault, FromWord, Message, next_word, one_word, quoted, two_words};
@@ -16,6 +16,12 @@ pub enum Step {
     Machine(u32, Act),
     // a day of a machine is let go
     LetGo(u32, u32),
+    // a machine is gone for good
+    Part(u32),
+    // the sweeper does something
+    Sweeper(Move),
+    // the sweeper stops, and comes up again
+    Stop,
     // what is where
     Show,
 }
@@ -29,6 +35,16 @@ pub enum Act {
     Raise,
     Name,
     Break,
+}
+
+// What the sweeper does.
+#[derive(Clone, Copy)]
+pub enum Move {
+    Look,
+    Aside,
+    Note,
+    Decide,
+    Next,
 }
 
 // The machine that a step has behind its name, and nothing more.
@@ -63,14 +79,14 @@ fn go_words(heap: Global, words: &[u8]) -> Result<(u32, u32), Fault>
     Ok((machine, u32::from_word(heap, number)?))
 }
 
-// No words, as `show` has.
-fn no_words(words: &[u8]) -> Result<(), Fault>
-    ensures { NoWords words.now result }
+// This step, which has no words behind its name.
+fn alone(step: Step, name: StepName, words: &[u8]) -> Result<Step, Fault>
+    ensures { Alone step name words.now result }
 {
     if next_word(words).is_some() {
-        return Err(StepName::Show.wrong_words());
+        return Err(name.wrong_words());
     }
-    Ok(())
+    Ok(step)
 }
 
 impl Step {
@@ -109,10 +125,14 @@ impl Step {
                 let (machine, number) = go_words(heap, words)?;
                 Ok(Step::LetGo(machine, number))
             }
-            StepName::Show => {
-                no_words(words)?;
-                Ok(Step::Show)
-            }
+            StepName::Part => Ok(Step::Part(machine(heap, name, words)?)),
+            StepName::Look => alone(Step::Sweeper(Move::Look), name, words),
+            StepName::Aside => alone(Step::Sweeper(Move::Aside), name, words),
+            StepName::Note => alone(Step::Sweeper(Move::Note), name, words),
+            StepName::Decide => alone(Step::Sweeper(Move::Decide), name, words),
+            StepName::Next => alone(Step::Sweeper(Move::Next), name, words),
+            StepName::Stop => alone(Step::Stop, name, words),
+            StepName::Show => alone(Step::Show, name, words),
         }
     }
 }

@@ -1,7 +1,7 @@
 // From standard input to standard output.
 use crate::line::LineAnswer;
 use crate::pending::Pending;
-use crate::world::World;
+use crate::rehearsal::Rehearsal;
 use std::io;
 use std::io::{BufRead, BufReader};
 
@@ -19,12 +19,12 @@ fn write_answer(rt: &impl Print, answer: LineAnswer) -> io::Result<()> {
 // Takes in a part of the script, and writes the answer to each line that ends in it.
 fn play_part(
     rt: &impl Print,
-    world: &mut World,
+    rehearsal: &mut Rehearsal,
     pending: &mut Pending,
     part: &[u8],
 ) -> io::Result<()> {
     let mut rest = part;
-    while let Some(answered) = pending.take_in(world, rest) {
+    while let Some(answered) = pending.take_in(rehearsal, rest) {
         write_answer(rt, answered.answer)?;
         rest = answered.after;
     }
@@ -35,7 +35,7 @@ fn play_part(
 pub fn play(rt: &HostRuntime) -> io::Result<()> {
     let heap = rt.alloc();
     let mut input = BufReader::with_capacity(heap, CHUNK, rt.stdin())?;
-    let Ok(mut world) = World::new(heap) else {
+    let Ok(mut rehearsal) = Rehearsal::new(heap) else {
         return Err(io::Error::from(io::ErrorKind::OutOfMemory));
     };
     let mut pending = Pending::new(heap);
@@ -46,11 +46,11 @@ pub fn play(rt: &HostRuntime) -> io::Result<()> {
         if length == 0 {
             break;
         }
-        play_part(rt, &mut world, &mut pending, part)?;
+        play_part(rt, &mut rehearsal, &mut pending, part)?;
         input.consume(length);
     }
     if pending.is_begun() {
-        write_answer(rt, pending.end(&mut world))?;
+        write_answer(rt, pending.end(&mut rehearsal))?;
     }
     Ok(())
 }

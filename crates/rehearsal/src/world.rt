@@ -1,20 +1,25 @@
-// What a script plays on: a store, and its machines.
+// What a script plays on: a store, its machines and its sweeper.
 ghost use Rattle.std.specs.Prelude.{◌≡◌, MatchResult};
 ghost use Rattle.std.specs.Option.{option_map};
 ghost use Rattle.cutting.specs.declared.refusal.Refusal.TheVariants.{NoMemory, PieceTooLong};
 ghost use Rattle.days.specs.Machines.{makes};
 ghost use Rattle.rehearsal.specs.Numbering.{IsNumbered};
-ghost use Rattle.rehearsal.specs.Shows.{shown_day};
+ghost use Rattle.std.specs.Prelude.{vec_items, IfErr, IfOk};
+ghost use Rattle.sweeper.specs.Sweepers.{sweeping};
+ghost use Rattle.rehearsal.specs.Shows.{ShowsSweeper, shown_day};
 
-use crate::shown::{Shown, ShownDay, ShownMachine};
-use crate::step::Act;
+use crate::shown::{Shown, ShownDay, ShownMachine, ShownSweeper};
+use crate::step::{Act, Move};
 use cutting::Refusal;
 use days::{Answer, Done, Machine};
+use digest::Digest;
 use std::alloc::Global;
+use std::collections::BTreeSet;
 use std::mem;
 use store::{DayName, Memory, Store, check_piece};
+use sweeper::{Activity, Sweeper, noted_number};
 
-// The machines that are on the list of machines.
+// The machines that are on the list of machines to begin with.
 const MACHINES: [u8; 4] = [0, 1, 2, 3];
 
 #[derive(Drop)]
@@ -22,6 +27,7 @@ pub struct World {
     heap: Global,
     store: Memory,
     machines: Vec<Machine>,
+    sweeper: Sweeper,
     ghost numbered: { IsNumbered machines.items },
 }
 
@@ -56,13 +62,37 @@ impl Act {
     }
 }
 
+impl Move {
+    ghost use Rattle.rehearsal.specs.Acts.{SweepsAs};
+    ghost use Rattle.sweeper.specs.Sweepers.{sweeping};
+
+    // What the sweeper does, and the sweeper after it.
+    fn done_by(
+        self,
+        sweeper: Sweeper,
+        heap: Global,
+        store: &mut Memory,
+    ) -> (Sweeper, sweeper::Answer)
+        ensures { SweepsAs self (sweeping sweeper) store.old result.1 (sweeping result.0) store.new }
+    {
+        match self {
+            Move::Look => sweeper.look(heap, store),
+            Move::Aside => sweeper.aside(store),
+            Move::Note => sweeper.note(store),
+            Move::Decide => sweeper.decide(heap, store),
+            Move::Next => sweeper.next(store),
+        }
+    }
+}
+
 impl World {
     ghost use Rattle.std.specs.Prelude.{vec_items};
     ghost use Rattle.store.specs.Memories.{state_of};
+    ghost use Rattle.sweeper.specs.Sweepers.{sweeping};
     ghost use Rattle.rehearsal.specs.Shows.{Shows, seen, shown_machine};
-    ghost use Rattle.rehearsal.specs.Worlds.{ActsIn, IsNew, LetsGo};
+    ghost use Rattle.rehearsal.specs.Worlds.{ActsIn, IsNew, LetsGo, Parts, Stops, Sweeps};
 
-    // An empty store, and machines that make no day.
+    // An empty store, machines that make no day, and a sweeper that rests.
     pub fn new(heap: Global) -> Result<World, Refusal>
         ensures { MatchResult result IsNew (λ r. r ≡ NoMemory) }
     {
@@ -76,6 +106,7 @@ impl World {
             heap,
             store: Memory::new(heap, &MACHINES)?,
             machines,
+            sweeper: Sweeper::new(),
         })
     }
 
@@ -103,9 +134,37 @@ impl World {
         self.store.let_go(DayName { machine, number })
     }
 
+    // A machine is gone for good.
+    pub fn part(&mut self, machine: u32) -> Result<(), Refusal>
+        ensures { Parts machine self.old result self.new }
+    {
+        let Ok(machine) = u8::try_from(machine) else {
+            return Err(Refusal::Unknown);
+        };
+        self.store.take_off(machine)
+    }
+
+    // The sweeper does something.
+    pub fn sweep(&mut self, turn: Move) -> Result<sweeper::Done, Refusal>
+        ensures { Sweeps turn self.old result self.new }
+    {
+        let taken = mem::replace(&mut self.sweeper, Sweeper::new());
+        let (after, answer) = turn.done_by(taken, self.heap, &mut self.store);
+        self.sweeper = after;
+        answer
+    }
+
+    // The sweeper stops, and comes up again.
+    pub fn stop(&mut self) -> Result<(), Refusal>
+        ensures { Stops self.old result self.new }
+    {
+        self.sweeper = Sweeper::come_up(&mut self.store)?;
+        Ok(())
+    }
+
     // What is where.
     pub fn show(&self) -> Result<Shown, Refusal>
-        ensures { MatchResult result (Shows (state_of self.now.store) (vec_items self.now.machines)) (λ r. r ≡ NoMemory) }
+        ensures { MatchResult result (Shows (state_of self.now.store) (vec_items self.now.machines) (sweeping self.now.sweeper)) (λ r. r ≡ NoMemory) }
     {
         let mut machines = Vec::new(self.heap);
         for machine in &self.machines {
@@ -114,6 +173,7 @@ impl World {
         Ok(Shown {
             contents: self.store.contents()?,
             machines,
+            sweeper: shown_sweeper(self.heap, &self.sweeper)?,
         })
     }
 
@@ -123,6 +183,7 @@ impl World {
         Ok(ShownMachine {
             number: machine.number(),
             highest: self.store.highest_number(machine.number()),
+            on_list: self.store.is_listed(machine.number()),
             makes: shown_day(self.heap, machine)?,
         })
     }
@@ -139,4 +200,32 @@ fn shown_day(heap: Global, machine: &Machine) -> Result<Option<ShownDay>, Refusa
         number: day.number(),
         pieces: Vec::from_slice(heap, day.pieces())?,
     }))
+}
+
+// The names of a set, in their order.
+fn listed(heap: Global, names: &BTreeSet<Digest>) -> Result<Vec<Digest>, Refusal>
+    ensures { MatchResult result (λ found. vec_items found ≡ names.now.keys) (λ r. r ≡ NoMemory) }
+{
+    Ok(names.iter().copied().collect(heap)?)
+}
+
+// What the sweeper does, as it is shown.
+fn shown_sweeper(heap: Global, sweeper: &Sweeper) -> Result<ShownSweeper, Refusal>
+    ensures { MatchResult result (ShowsSweeper (sweeping sweeper.now)) (λ r. r ≡ NoMemory) }
+{
+    match sweeper.activity() {
+        Activity::Rests => Ok(ShownSweeper::Rests),
+        Activity::PutsAside(left) => Ok(ShownSweeper::PutsAside(listed(heap, left)?)),
+        Activity::Waits(noted) => Ok(ShownSweeper::Waits([
+            noted_number(noted, 0),
+            noted_number(noted, 1),
+            noted_number(noted, 2),
+            noted_number(noted, 3),
+        ])),
+        Activity::Ends(turns) => Ok(ShownSweeper::Ends(
+            listed(heap, &turns.back)?,
+            listed(heap, &turns.away)?,
+        )),
+        Activity::DecidesAnew => Ok(ShownSweeper::DecidesAnew),
+    }
 }

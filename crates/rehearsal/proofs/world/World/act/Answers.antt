@@ -1,4 +1,4 @@
-use Rattle.std.proofs.Common.{◌≡◌, ap, inr, sym, Some, ◌∙◌}
+use Rattle.std.proofs.Common.{◌≡◌, ap, inr, refl, sym, Some, ◌∙◌}
 use Rattle.std.proofs.lemmas.Option.{slice_get-get_or}
 use Rattle.std.specs.List.{slice_get}
 use Rattle.std.specs.Option.{option_and_then}
@@ -20,5 +20,6 @@ returns c =
         number.1,
         acts_equal c.args.act i _ _ _ _ _ c.args.self.now.store c.done_by-after.new.store c.done_by-after.result.1 number.0 (sym (ap (option_and_then makes) here)) (sym (ap (option_and_then makes) after)) c.done_by-after.ensures.step,
         λ j apart. ap (option_and_then makes) (get-set_other ms i j c.done_by-after.result.0 apart),
+        refl,
       ),
     )
