@@ -37,6 +37,37 @@ REFUSED = [
     (b"cut\x0b", r"no step is called 'cut\x0b'"),
     (b"pieces 1", "no step is called 'pieces'"),
     (b"616263", "no step is called '616263'"),
+    (b"look\x0b", r"no step is called 'look\x0b'"),
+    (b"Look", "no step is called 'Look'"),
+    (b"aside#", "no step is called 'aside#'"),
+    (b"note\r\r", r"no step is called 'note\x0d'"),
+    (b"decides", "no step is called 'decides'"),
+    (b"nex", "no step is called 'nex'"),
+    (b"stop\x00", r"no step is called 'stop\x00'"),
+    (b"PART 0", "no step is called 'PART'"),
+    (b"parts 0", "no step is called 'parts'"),
+    # The words of the sweeper's steps, and of a machine that is gone for good.
+    *[
+        (name + words, f"write the line as '{name.decode()}'")
+        for name in (b"look", b"aside", b"note", b"decide", b"next", b"stop")
+        for words in (b" 0", b" x", b"\t#", b" # no comment", b" 616263", b" \xff", b" \r\r", b" " + name)
+    ],
+    (b"part", "write the line as 'part M'"),
+    (b"part \t\r", "write the line as 'part M'"),
+    (b"part 0 0", "write the line as 'part M'"),
+    (b"part x #", "write the line as 'part M'"),
+    (b"part x", "'x' is not a number from 0 to 4294967295"),
+    (b"part -1", "'-1' is not a number from 0 to 4294967295"),
+    (b"part 4294967296", "'4294967296' is not a number from 0 to 4294967295"),
+    (b"part \xff'", r"'\xff\x27' is not a number from 0 to 4294967295"),
+    (b"part 4", "refused by 1: there is no such machine, day or path"),
+    (b"part 64", "refused by 1: there is no such machine, day or path"),
+    (b"part 004294967295", "refused by 1: there is no such machine, day or path"),
+    # Steps of the sweeper, which rests.
+    *[
+        (line, "refused by 4: the sweeper is not at that point")
+        for line in (b"aside", b" note\r", b"\tdecide ", b"next \t\r")
+    ],
     (b" \t x#y \t z", "no step is called 'x#y'"),
     (b"digest#", "no step is called 'digest#'"),
     # What is shown of a word.

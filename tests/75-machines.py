@@ -2,7 +2,7 @@
 """The steps of machines: scripts, each step with its answer. What is expected is
 written here by hand, from docs/REHEARSE.md and docs/STORE.md."""
 
-from common import USAGE, check, main, sha256, sha256_repeat
+from common import USAGE, main, played, sha256, sha256_repeat
 
 # The names of the pieces of no bytes, of the bytes 61, 62 and 63, and of two long
 # ones. In the order of their digits: C, B, LONG, A, ZEROS, NO.
@@ -24,6 +24,9 @@ RAISED = "line: refused by 3: the day has its number already, and is to be named
 NOT_RAISED = "line: refused by 3: the day has no number yet, which is to be raised first"
 
 NOTHING = ["machine 0 0 none", "machine 1 0 none", "machine 2 0 none", "machine 3 0 none"]
+
+# The last line of what `show` writes, which the table below leaves out: nothing is swept here.
+RESTS = "sweeper rests"
 
 # Each script is a list of steps, each with the lines of its answer.
 SCRIPTS = [
@@ -298,7 +301,15 @@ SCRIPTS = [
         *[
             (f"{step} {machine}{rest}", ABSENT)
             for machine in (4, 5, 10, 63, 64, 65, 255, 256, 65_536, 4_294_967_295)
-            for step, rest in (("begin", ""), ("see", ""), ("see", " 61"), ("raise", ""), ("name", ""), ("break", ""))
+            for step, rest in [
+                ("begin", ""),
+                ("see", ""),
+                ("see", " 61"),
+                ("raise", ""),
+                ("name", ""),
+                ("break", ""),
+                ("part", ""),
+            ]
         ],
         ("show", *NOTHING),
     ],
@@ -398,6 +409,7 @@ RAISE = "write the line as 'raise M'"
 NAME = "write the line as 'name M'"
 BREAK = "write the line as 'break M'"
 GO = "write the line as 'go M N'"
+PART = "write the line as 'part M'"
 SHOW = "write the line as 'show'"
 
 
@@ -419,6 +431,8 @@ FAULTS = [
     ("broken off", "no step is called 'broken'"),
     ("g 0 1", "no step is called 'g'"),
     ("let go", "no step is called 'let'"),
+    ("par 0", "no step is called 'par'"),
+    ("parted", "no step is called 'parted'"),
     ("shows", "no step is called 'shows'"),
     ("show#", "no step is called 'show#'"),
     ("show\x0b", r"no step is called 'show\x0b'"),
@@ -447,6 +461,12 @@ FAULTS = [
     ("break", BREAK),
     ("break 0 1", BREAK),
     ("break 0 off", BREAK),
+    ("part", PART),
+    ("part \r", PART),
+    ("part 0 1", PART),
+    ("part 0 #", PART),
+    ("part x y", PART),
+    ("part" + " 0" * 100_000, PART),
     ("go", GO),
     ("go 0", GO),
     ("go x", GO),
@@ -505,6 +525,7 @@ FAULTS = [
             f"raise {word}",
             f"name {word}",
             f"break {word}",
+            f"part {word}",
             f"go {word} 1",
             f"go {word} {word}x",
             f"go 0 {word}",
@@ -550,25 +571,17 @@ FAULTS = [
 ]
 
 
-def played(steps):
-    """Both programs must give each step its answer, in one script."""
-    expected = [
-        line.replace("line:", f"line {number}:", 1) if line.startswith("line:") else line
-        for number, (_, *answer) in enumerate(steps, 1)
-        for line in answer
-    ]
-    script = "\n".join(step for step, *_ in steps).encode("latin-1")
-    check(script, expected)
-    check(script + b"\n", expected)
+def with_sweeper(steps):
+    return [(*step, RESTS) if step[0] == "show" else step for step in steps]
 
 
 def test():
     for steps in SCRIPTS:
-        played(steps)
+        played(with_sweeper(steps))
 
     # Lines that are no step change nothing, where no machine makes a day and where some do.
     faults = [(line, "line: " + message) for line, message in FAULTS]
-    played([*faults, ("show", *NOTHING)])
+    played(with_sweeper([*faults, ("show", *NOTHING)]))
     before = [
         ("begin 0", "begun"),
         ("see 0 61", "written " + A),
@@ -580,10 +593,10 @@ def test():
     ]
     after = [f"place {A} 1", f"listed 0 {A}", "day 3 1", f"machine 0 0 makes {A}", "machine 1 1 names 1"]
     after += ["machine 2 0 none", "machine 3 1 none"]
-    played([*before, *faults, ("show", *after)])
+    played(with_sweeper([*before, *faults, ("show", *after)]))
 
     # A script begins with an empty store, whatever others did before.
-    played([("show", *NOTHING), ("raise 1", MAKES_NONE)])
+    played(with_sweeper([("show", *NOTHING), ("raise 1", MAKES_NONE)]))
 
 
 main(test)

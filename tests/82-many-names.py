@@ -10,14 +10,22 @@ from common import compare, main, programs, run, sha256
 MAX_LISTED = 262_144
 MACHINES = 4
 
+# How many pieces there are; one name is in the sweeper's list, too: that of the
+# piece FIRST, whose name comes first of all.
+PIECES = MAX_LISTED - 1
+FIRST = min(range(PIECES), key=lambda number: sha256(number.to_bytes(3, "big")))
+
 FULL = "refused by 5: the lists have at most 262144 names"
+NOT_THERE = "refused by 4: the sweeper is not at that point"
+NOT_THERE = "refused by 4: the sweeper is not at that point"
 NO_NUMBER = "refused by 3: the day has its number already, and is to be named or broken off"
 
 
 def test():
     lines, expected = [], []
     # What `show` has to write.
-    place, listed, seen = {}, [], [[] for _ in range(MACHINES)]
+    place, aside, listed, listed_by_sweeper = {}, {}, set(), []
+    seen = [[] for _ in range(MACHINES)]
 
     def step(line, *answer):
         lines.append(line)
@@ -29,20 +37,35 @@ def test():
         seen[machine].append(name)
         if not found:
             place[name] = len(piece)
-            listed.append((machine, name))
+            listed.add((machine, name))
+
+    def put_aside():
+        """Puts the first piece aside."""
+        name = sha256(FIRST.to_bytes(3, "big"))
+        step("aside", f"put aside {name}")
+        aside[name] = place.pop(name)
 
     def refused(line, why):
         step(line, f"line {len(lines) + 1}: {why}")
 
-    def show(days):
+    def show(days, sweeper):
         step("show", *[f"place {name} {length}" for name, length in sorted(place.items())])
+        expected.extend(f"aside {name} {length}" for name, length in sorted(aside.items()))
         expected.extend(f"listed {machine} {name}" for machine, name in sorted(listed))
+        expected.extend(f"listed sweeper {name}" for name in listed_by_sweeper)
         expected.extend(days)
+        expected.append(sweeper)
 
     for machine in range(MACHINES):
         step(f"begin {machine}", "begun")
+    # One piece is put aside. It will be written once more.
+    see(FIRST % MACHINES, FIRST.to_bytes(3, "big"))
+    step("look", "to put aside 1")
+    put_aside()
+    listed_by_sweeper += aside
+    step("stop", "stopped")
     # Each machine writes a quarter of them, in turns.
-    for number in range(MAX_LISTED):
+    for number in range(PIECES):
         see(number % MACHINES, number.to_bytes(3, "big"))
 
     # A new piece is refused; one that is there is found, whoever wrote it.
@@ -50,7 +73,7 @@ def test():
         refused(f"see {machine} 61", FULL)
         refused(f"see {machine} repeat 61 65536", FULL)
         refused(f"see {machine}", FULL)
-        for number in (0, 1, 2, 3, 100_000, MAX_LISTED - 1):
+        for number in (0, 1, 2, 3, 100_000, PIECES - 1):
             see(machine, number.to_bytes(3, "big"), found=True)
     # What is refused by a lower number has that one.
     refused("see 4 61", "refused by 1: there is no such machine, day or path")
@@ -69,11 +92,26 @@ def test():
         "machine 2 0 none",
         " ".join(["machine 3 0 makes", *seen[3]]),
     ]
-    show([day, *machines])
+    show([day, *machines], "sweeper rests")
     step("go 0 1", "let go")
     step("begin 0", "begun")
     refused("see 0 61", FULL)
-    show(["machine 0 1 makes", *machines[1:]])
+
+    # The sweeper can put aside the piece whose name is in its list, and no other, and notes nothing then.
+    step("look", f"to put aside {PIECES}")
+    put_aside()
+    refused("aside", FULL)
+    refused("aside", FULL)
+    refused("note", NOT_THERE)
+    show(["machine 0 1 makes", *machines[1:]], " ".join(["sweeper puts aside", *sorted(place)]))
+    step("stop", "stopped")
+    # What lies aside is not found. Its name is in the list of machine 1, and in that of the sweeper.
+    assert FIRST % MACHINES == 1
+    refused(f"see 0 {FIRST.to_bytes(3, 'big').hex()}", FULL)
+    # A day that has it can be named, and is not damaged.
+    step("name 1", "named 1")
+    step("look", f"to put aside {len(set(place).difference(seen[1]))}")
+    refused("aside", FULL)
 
     script = "".join(line + "\n" for line in lines).encode()
     for name, path in programs():

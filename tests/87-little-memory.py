@@ -74,12 +74,102 @@ def fill_store(path):
             raise Failure(f"with {limit} bytes: {got[-3:]}")
 
 
+# As many pieces are written, and a sweep gets rid of them, with every machine gone.
+PIECES = 600
+SWEEP = [b"begin 0", *(b"see 0 random %d 65536" % seed for seed in range(PIECES)), b"break 0", b"look"]
+SWEEP += [b"aside"] * PIECES + [b"note", b"part 0", b"part 1", b"part 2", b"part 3", b"decide"]
+SWEEP += [b"next"] * PIECES + [b"look", b"aside", b"digest repeat 61 3"]
+
+
+class Sweep:
+    """What such a script has done, by its answers: a step that there was no memory for has done nothing."""
+
+    def __init__(self, names):
+        # The names of the pieces, line by line.
+        self.names = iter(names)
+        self.place, self.left, self.aside = [], [], []
+        self.machines = {b"0", b"1", b"2", b"3"}
+        self.point = "rests"
+
+    def answer(self, line):
+        """The answer to the next line, and what the step then does."""
+        step, *words = line.split()
+        match step.decode(), self.point:
+            case "begin", _:
+                return "begun", None
+            case "see", _:
+                name = next(self.names)
+                return f"written {name}", lambda: self.place.append(name)
+            case "break", _:
+                return "broken off", None
+            case "part", _:
+                return "parted", lambda: self.machines.remove(words[0])
+            case "digest", _:
+                return sha256(b"aaa"), None
+            case "look", "rests":
+                return f"to put aside {len(self.place)}", self.look
+            case "aside", "puts aside" if self.left:
+                return f"put aside {self.left[0]}", self.put_aside
+            case "note", "puts aside" if not self.left:
+                return "noted", lambda: self.go_to("waits")
+            case "decide", "waits" if self.machines:
+                return "refused by 4: a machine has finished no day since", None
+            case "decide", "waits":
+                return f"to put back 0, to throw away {len(self.aside)}", lambda: self.go_to("ends")
+            case "next", "ends":
+                return f"thrown away {self.aside[0]}", self.throw_away
+            case _:
+                return "refused by 4: the sweeper is not at that point", None
+
+    def look(self):
+        self.left = sorted(self.place)
+        self.point = "puts aside"
+
+    def put_aside(self):
+        self.place.remove(self.left[0])
+        self.aside.append(self.left.pop(0))
+
+    def throw_away(self):
+        self.aside.pop(0)
+        self.go_to("ends")
+
+    def go_to(self, point):
+        self.point = "rests" if point == "ends" and not self.aside else point
+
+
+def sweep_store(path):
+    """The same for a sweep."""
+    script = b"".join(line + b"\n" for line in SWEEP)
+    lines = agreed_lines(script, "a sweep")
+    names = [line.decode().removeprefix("written ") for line in lines[1 : PIECES + 1]]
+    for limit in 20 * MEGABYTE, 30 * MEGABYTE, 90 * MEGABYTE:
+        got = answers(path, script, limit)
+        if len(got) != len(SWEEP):
+            raise Failure(f"with {limit} bytes: {len(got)} answers to {len(SWEEP)} lines of a sweep")
+        sweep = Sweep(names)
+        wanting = 0
+        for number, (line, answer) in enumerate(zip(SWEEP, got), 1):
+            wanted, done = sweep.answer(line)
+            if answer == f"line {number}: {NO_MEMORY}":
+                wanting += 1
+            elif answer.removeprefix(f"line {number}: ") != wanted:
+                raise Failure(f"with {limit} bytes: line {number} of a sweep has {answer!r}, not {wanted!r}")
+            elif done:
+                done()
+        print(f"with {limit // MEGABYTE} MiB there was no memory for {wanting} of {len(SWEEP)} steps of a sweep")
+        if (wanting == 0) != (limit == 90 * MEGABYTE):
+            raise Failure(f"with {limit} bytes there was no memory for {wanting} lines of a sweep")
+        if got[-1] != sha256(b"aaa"):
+            raise Failure(f"with {limit} bytes: {got[-1]!r}")
+
+
 def test():
     script = b"".join(line + b"\n" for line, _ in LINES)
     check(script, [line for _, answer in LINES for line in answer])
 
     (_, path), _ = programs()
     fill_store(path)
+    sweep_store(path)
     limits = range(12 * MEGABYTE, 80 * MEGABYTE, 2 * MEGABYTE)
     found = [played(answers(path, script, limit), limit) for limit in limits]
     counts = ", ".join(str(sum(which)) for which in found)

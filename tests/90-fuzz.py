@@ -7,7 +7,7 @@ import re
 from common import Failure, agreed_lines, main
 
 SEED = 90
-SCRIPTS = 160
+SCRIPTS = 240
 LINES = 250
 
 # Lines to mutate. Some are several in a row.
@@ -74,11 +74,31 @@ STARTS = [
     b"go 0 1",
     b"go 1 2",
     b"go 4294967295 4294967295",
+    b"part 3",
+    b"part 003",
+    b"part 64",
+    b"part",
+    b"part 0 0",
+    b"look",
+    b"aside",
+    b"note",
+    b"decide",
+    b"next",
+    b"stop",
+    b"look 0",
+    b"aside 0",
+    b"note 0",
+    b"decide 0",
+    b"next 0",
+    b"stop 0",
     b"show",
     b"show 0",
     b"begin 0\nsee 0 61\nsee 0 repeat 61 1\nraise 0\nname 0\ngo 0 2",
     b"begin 1\nsee 1 61\nsee 1 62\nraise 1\nraise 1\nbegin 1\nshow\nname 1",
     b"break 2\nbegin 2\nsee 2 61\nname 2\nsee 2\nshow\nraise 2\nsee 2\nbreak 2",
+    b"begin 3\nsee 3 61\nsee 3 62\npart 3\nbegin 3\nstop\nlook\naside\naside\naside\nshow\nnote\nnote\nstop",
+    b"part 0\npart 1\npart 2\npart 3\ndecide\nshow\nnext\nstop\nshow\ndecide\nnext\nnext\nnext\nlook",
+    b"break 0\nbegin 0\nsee 0 61\nsee 0 63\nbreak 0\nstop\nlook\naside\nbegin 0\nsee 0 61\nsee 0 63\nnote",
     b"# comment",
     b"",
     b" \t\r",
@@ -91,7 +111,8 @@ STARTS = [
 PIECES = [b" ", b"\t", b"\r", b"\n", b"#", b"'", b"\\", b"\0", b"0", b"9", b"a", b"F", b"g", b"G"]
 PIECES += [b"\x0b", b"\x1f", b"~", b"\x7f", b"\x80", b"\xff", b"digest", b"repeat", b" 61", b"\r\n"]
 PIECES += [b"cut", b"random", b" 1 ", b"begin", b"see", b"raise", b"name", b"break", b"go", b"show"]
-PIECES += [b" 0", b"1", b"\nbegin 0\n", b"\nraise 1\n"]
+PIECES += [b" 0", b"1", b"\nbegin 0\n", b"\nraise 1\n", b"part", b"look", b"aside", b"note", b"decide"]
+PIECES += [b"next", b"stop", b"\nlook\n", b"\naside\n", b"\nstop\n"]
 
 # A count that takes both programs long; there are other tests for those. `cut`
 # refuses 20,000,000 bytes and more, which takes no time.
@@ -116,10 +137,11 @@ KINDS = {
     "no pieces": rb"^pieces 0$",
     "a piece": rb"^[1-9][0-9]* [0-9a-f]{64}$",
     "a file that is too long": rb"^line [0-9]+: refused by 1: a file has at most 16777216 bytes$",
-    "a step's line": rb"^line [0-9]+: write the line as '(begin|raise|name|break) M'$",
+    "a step's line": rb"^line [0-9]+: write the line as '(begin|raise|name|break|part) M'$",
     "the line of see": rb"^line [0-9]+: write the line as 'see M BYTES'$",
     "the line of go": rb"^line [0-9]+: write the line as 'go M N'$",
     "the line of show": rb"^line [0-9]+: write the line as 'show'$",
+    "the line of a step of the sweeper": rb"^line [0-9]+: write the line as '(look|aside|note|decide|next|stop)'$",
     "a word that is no machine or number of a day": rb"is not a number from 0 to 4294967295$",
     "a piece that is too long": rb"^line [0-9]+: refused by 1: a piece has at most 65536 bytes$",
     "no such machine or day": rb"^line [0-9]+: refused by 1: there is no such machine, day or path$",
@@ -136,6 +158,18 @@ KINDS = {
     "a day that is shown": rb"^day [0-3] [0-9]+",
     "a machine that makes a day": rb"^machine [0-3] [0-9]+ makes",
     "a machine that names one": rb"^machine [0-3] [0-9]+ names",
+    "a machine that is gone": rb"^machine [0-3] [0-9]+ parted$",
+    "that a machine is gone": rb"^parted$",
+    "another point of the sweep": rb"^line [0-9]+: refused by 4: the sweeper is not at that point$",
+    "a look": rb"^to put aside [0-9]+$",
+    "a piece that is put aside": rb"^put aside [0-9a-f]{64}$",
+    "that it is noted": rb"^noted$",
+    "a decision": rb"^to put back [0-9]+, to throw away [0-9]+$",
+    "a piece that is put back or thrown away": rb"^(put back|thrown away) [0-9a-f]{64}$",
+    "that the sweeper has stopped": rb"^stopped$",
+    "a piece aside": rb"^aside [0-9a-f]{64} [0-9]+$",
+    "a name in the list of the sweeper": rb"^listed sweeper [0-9a-f]{64}$",
+    "what the sweeper does": rb"^sweeper (rests|puts aside|waits|ends|is to decide anew)",
 }
 
 

@@ -65,6 +65,7 @@ KINDS = {
     "a machine that makes a day with pieces": r"machine [0-3] [0-9]+ makes( [0-9a-f]{64})+",
     "a machine that names a day without pieces": r"machine [0-3] ([1-9][0-9]*) names \1",
     "a machine that names a day with pieces": r"machine [0-3] ([1-9][0-9]*) names \1( [0-9a-f]{64})+",
+    "the sweeper": r"sweeper rests",
 }
 KINDS = {kind: re.compile(pattern) for kind, pattern in KINDS.items()}
 

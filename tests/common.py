@@ -56,10 +56,10 @@ def build_reference():
     return target / "release/reference"
 
 
-def run(name, path, script):
+def run(name, path, script, *options):
     """What the program writes for a script; it must succeed and say nothing else."""
     try:
-        done = subprocess.run([path], input=script, capture_output=True, timeout=TIME_LIMIT)
+        done = subprocess.run([path, *options], input=script, capture_output=True, timeout=TIME_LIMIT)
     except subprocess.TimeoutExpired:
         raise Failure(f"{name}: not done after {TIME_LIMIT} s, script {short(script)}") from None
     if done.returncode != 0:
@@ -75,6 +75,13 @@ def check(script, expected):
         compare(name, run(name, path, script), expected, script)
 
 
+def check_promise(script):
+    """The second program must find that the promise is kept after every line."""
+    _, (name, path) = programs()
+    if run(name, path, script, "--check") != run(name, path, script):
+        raise Failure(f"{name}: other answers where the promise is checked, script {short(script)}")
+
+
 def compare(name, output, expected, script):
     wanted = b"".join(line.encode("ascii") + b"\n" for line in expected)
     if output == wanted:
@@ -85,6 +92,19 @@ def compare(name, output, expected, script):
         if one != other:
             raise Failure(f"{name}: answer {at} is {short(one)}, not {short(other)}, {of}")
     raise Failure(f"{name}: {len(got) - 1} answers, not {len(expected)}, {of}")
+
+
+def played(steps):
+    """Both programs must give each step its answer, in one script. A step is its line
+    and the lines of its answer, where `line: ` stands for `line N: ` with its number."""
+    expected = [
+        line.replace("line:", f"line {number}:", 1) if line.startswith("line:") else line
+        for number, (_, *answer) in enumerate(steps, 1)
+        for line in answer
+    ]
+    script = "\n".join(step for step, *_ in steps).encode("latin-1")
+    check(script, expected)
+    check(script + b"\n", expected)
 
 
 def agreed_lines(script, what):

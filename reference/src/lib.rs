@@ -1,18 +1,24 @@
 //! A second, independent implementation of SHA-256, of the cutting of files, of
-//! machines that make days and of the script of `rehearse`, in plain Rust. The
-//! tests compare the two programs; the benchmark measures the proved code against
-//! this one.
+//! machines that make days, of the sweeper and of the script of `rehearse`, in
+//! plain Rust. The tests compare the two programs; the benchmark measures the
+//! proved code against this one.
 //!
 //! `sha256` follows FIPS 180-4, `cutting` follows `docs/CUTTING.md`, `generator`
-//! follows `docs/GENERATOR.md`, `store` and `machines` follow `docs/STORE.md`,
-//! and `script` and `refusal` follow `docs/REHEARSE.md`.
+//! follows `docs/GENERATOR.md`, `store`, `machines` and `sweeper` follow
+//! `docs/STORE.md`, and `script` and `refusal` follow `docs/REHEARSE.md`.
+//! `promise` checks what `docs/STORE.md` promises, after each step of a script;
+//! `variant` has wrong rules, by which a script can be played.
 
 #![forbid(unsafe_code)]
 
 pub mod cutting;
 pub mod generator;
 pub mod machines;
+pub mod promise;
 pub mod refusal;
 pub mod script;
 pub mod sha256;
 pub mod store;
+pub mod sweeper;
+pub mod variant;
+pub mod world;

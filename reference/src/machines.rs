@@ -4,6 +4,7 @@ use crate::cutting::MOST;
 use crate::refusal::Refusal;
 use crate::sha256::{sha256, Digest};
 use crate::store::Store;
+use crate::variant::Variant;
 use std::collections::btree_map::{BTreeMap, Entry};
 
 /// A store, and what the machines on its list make.
@@ -12,6 +13,8 @@ pub struct Machines {
     pub store: Store,
     /// The day of each machine that makes one.
     pub making: BTreeMap<u32, Making>,
+    /// A wrong rule that they play by.
+    pub variant: Option<Variant>,
 }
 
 /// A day that a machine makes.
@@ -44,6 +47,7 @@ impl Machines {
         Machines {
             store,
             making: BTreeMap::new(),
+            variant: None,
         }
     }
 
@@ -68,7 +72,10 @@ impl Machines {
         let day = self.making.get_mut(&machine).ok_or(Refusal::MakesNoDay)?;
         day.check_not_raised()?;
         let name = sha256(piece);
-        let seen = if self.store.read(&name) == Some(piece) {
+        let found = self.store.read(&name) == Some(piece)
+            || self.variant == Some(Variant::AsideFound)
+                && self.store.read_aside(&name) == Some(piece);
+        let seen = if found {
             Seen::Found(name)
         } else {
             self.store.list(machine, name)?;
@@ -107,6 +114,13 @@ impl Machines {
             Some(_) => Ok(()),
             None => Err(Refusal::MakesNoDay),
         }
+    }
+
+    /// Takes the machine off the list. A day that it makes is never finished.
+    pub fn part(&mut self, machine: u32) -> Result<(), Refusal> {
+        self.store.take_off_list(machine)?;
+        self.making.remove(&machine);
+        Ok(())
     }
 
     fn check_on_list(&self, machine: u32) -> Result<(), Refusal> {
@@ -180,6 +194,31 @@ mod tests {
                 all.break_off(machine)
             });
         }
+    }
+
+    #[test]
+    fn parting() {
+        let mut machines = machines();
+        machines.begin(1).expect("it makes none");
+        machines.see(1, b"a").expect("it makes a day");
+        machines.raise(1).expect("it has not raised");
+        machines.name(1).expect("it has raised");
+        machines.begin(1).expect("it makes none");
+        refused(&mut machines, Refusal::NotThere, |all| all.part(2));
+        assert_eq!(machines.part(1), Ok(()));
+        assert!(machines.making.is_empty());
+        refused(&mut machines, Refusal::NotThere, |all| all.part(1));
+        refused(&mut machines, Refusal::NotThere, |all| all.begin(1));
+        refused(&mut machines, Refusal::NotThere, |all| all.see(1, b"a"));
+        refused(&mut machines, Refusal::NotThere, |all| all.raise(1));
+        refused(&mut machines, Refusal::NotThere, |all| all.name(1));
+        refused(&mut machines, Refusal::NotThere, |all| all.break_off(1));
+        // What it has made stays.
+        assert_eq!(machines.store.days[&(1, 1)], [sha256(b"a")]);
+        assert_eq!(machines.store.highest(1), 1);
+        assert_eq!(machines.store.listed.len(), 1);
+        assert_eq!(machines.store.let_go(1, 1), Ok(()));
+        assert_eq!(machines.begin(0), Ok(()));
     }
 
     #[test]

@@ -14,10 +14,16 @@ pub enum Refusal {
     /// A day has that name already. No script gets here: a machine's number
     /// only rises, and a day has the number that was raised for it.
     NameTaken,
+    /// A day has a piece that is not there. No script gets here.
+    DayDamaged,
     AlreadyMakesDay,
     MakesNoDay,
     NumberRaised,
     NumberNotRaised,
+    /// The sweeper is at another point of its sweep.
+    NotAtThatPoint,
+    /// The sweeper waits for a machine.
+    NoDaySince,
     ListsFull,
     LastNumber,
 }
@@ -26,11 +32,12 @@ impl Refusal {
     pub fn number(self) -> u8 {
         match self {
             Refusal::FileTooLong | Refusal::PieceTooLong | Refusal::NotThere => 1,
-            Refusal::NameTaken => 2,
+            Refusal::NameTaken | Refusal::DayDamaged => 2,
             Refusal::AlreadyMakesDay
             | Refusal::MakesNoDay
             | Refusal::NumberRaised
             | Refusal::NumberNotRaised => 3,
+            Refusal::NotAtThatPoint | Refusal::NoDaySince => 4,
             Refusal::ListsFull => 5,
             Refusal::LastNumber => 6,
         }
@@ -45,6 +52,7 @@ impl fmt::Display for Refusal {
             Refusal::PieceTooLong => write!(f, "a piece has at most {MOST} bytes"),
             Refusal::NotThere => f.write_str("there is no such machine, day or path"),
             Refusal::NameTaken => f.write_str("there is a day of that number already"),
+            Refusal::DayDamaged => f.write_str("a day is damaged or incomplete"),
             Refusal::AlreadyMakesDay => f.write_str("the machine already makes a day"),
             Refusal::MakesNoDay => f.write_str("the machine makes no day"),
             Refusal::NumberRaised => {
@@ -53,6 +61,8 @@ impl fmt::Display for Refusal {
             Refusal::NumberNotRaised => {
                 f.write_str("the day has no number yet, which is to be raised first")
             }
+            Refusal::NotAtThatPoint => f.write_str("the sweeper is not at that point"),
+            Refusal::NoDaySince => f.write_str("a machine has finished no day since"),
             Refusal::ListsFull => write!(f, "the lists have at most {MAX_LISTED} names"),
             Refusal::LastNumber => write!(f, "a day number is at most {}", u32::MAX),
         }

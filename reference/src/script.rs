@@ -2,10 +2,14 @@
 
 use crate::cutting::{self, MAX_FILE, MOST};
 use crate::generator::Generator;
-use crate::machines::{Machines, Making, Seen};
+use crate::machines::{Making, Seen};
+use crate::promise::{Broken, Checker, Event};
 use crate::refusal::Refusal;
 use crate::sha256::{sha256, Digest, Sha256};
-use crate::store::Store;
+use crate::sweeper::{Moved, Point, Sweeper};
+use crate::variant::Variant;
+use crate::world::World;
+use std::collections::BTreeMap;
 use std::fmt;
 use std::io::{self, BufRead, BufReader, BufWriter, Read, Write};
 use std::iter;
@@ -37,7 +41,16 @@ enum Answer<'a> {
     Named(u32),
     BrokenOff,
     LetGo,
-    Show(&'a Machines),
+    Parted,
+    /// How many pieces are to be put aside.
+    Looked(usize),
+    PutAside(Digest),
+    Noted,
+    /// How many pieces are to be put back, and how many to be thrown away.
+    Decided(usize, usize),
+    Moved(Moved),
+    Stopped,
+    Show(&'a World),
 }
 
 impl Answer<'_> {
@@ -58,14 +71,26 @@ impl Answer<'_> {
             Answer::Named(number) => writeln!(output, "named {number}"),
             Answer::BrokenOff => writeln!(output, "broken off"),
             Answer::LetGo => writeln!(output, "let go"),
-            Answer::Show(machines) => write_all_there_is(machines, output),
+            Answer::Parted => writeln!(output, "parted"),
+            Answer::Looked(count) => writeln!(output, "to put aside {count}"),
+            Answer::PutAside(name) => writeln!(output, "put aside {}", Hex(name)),
+            Answer::Noted => writeln!(output, "noted"),
+            Answer::Decided(back, away) => {
+                writeln!(output, "to put back {back}, to throw away {away}")
+            }
+            Answer::Moved(Moved::PutBack(name)) => writeln!(output, "put back {}", Hex(name)),
+            Answer::Moved(Moved::ThrownAway(name)) => {
+                writeln!(output, "thrown away {}", Hex(name))
+            }
+            Answer::Stopped => writeln!(output, "stopped"),
+            Answer::Show(world) => write_all_there_is(world, output),
         }
     }
 }
 
 /// The answer to `show`: what is where.
-fn write_all_there_is(machines: &Machines, output: &mut impl Write) -> io::Result<()> {
-    let store = &machines.store;
+fn write_all_there_is(world: &World, output: &mut impl Write) -> io::Result<()> {
+    let store = &world.machines.store;
     for (name, bytes) in &store.place {
         writeln!(output, "place {} {}", Hex(name), bytes.len())?;
     }
@@ -75,12 +100,16 @@ fn write_all_there_is(machines: &Machines, output: &mut impl Write) -> io::Resul
     for (machine, name) in &store.listed {
         writeln!(output, "listed {machine} {}", Hex(name))?;
     }
+    for name in &store.sweeper_listed {
+        writeln!(output, "listed sweeper {}", Hex(name))?;
+    }
     for ((machine, number), names) in &store.days {
         writeln!(output, "day {machine} {number}{}", Names(names))?;
     }
-    for &machine in &store.machines {
+    for machine in MACHINES {
         write!(output, "machine {machine} {} ", store.highest(machine))?;
-        match machines.making.get(&machine) {
+        match world.machines.making.get(&machine) {
+            _ if !store.has_machine(machine) => writeln!(output, "parted")?,
             None => writeln!(output, "none")?,
             Some(Making { pieces, number }) => match number {
                 None => writeln!(output, "makes{}", Names(pieces))?,
@@ -88,16 +117,44 @@ fn write_all_there_is(machines: &Machines, output: &mut impl Write) -> io::Resul
             },
         }
     }
-    Ok(())
+    write_sweeper(&world.sweeper, output)
+}
+
+fn write_sweeper(sweeper: &Sweeper, output: &mut impl Write) -> io::Result<()> {
+    match &sweeper.point {
+        Point::Rests => writeln!(output, "sweeper rests"),
+        Point::PutsAside(left) => writeln!(output, "sweeper puts aside{}", Names(left)),
+        Point::Waits(noted) => writeln!(output, "sweeper waits{}", Noted(noted)),
+        Point::Ends { back, away } => {
+            let (back, away) = (Names(back), Names(away));
+            writeln!(output, "sweeper ends, back{back}, away{away}")
+        }
+        Point::DecidesAnew => writeln!(output, "sweeper is to decide anew"),
+    }
 }
 
 /// Names with a space before each.
-struct Names<'a>(&'a [Digest]);
+struct Names<'a, T>(&'a T);
 
-impl fmt::Display for Names<'_> {
+impl<'a, T> fmt::Display for Names<'a, T>
+where
+    &'a T: IntoIterator<Item = &'a Digest>,
+{
     fn fmt(&self, f: &mut fmt::Formatter) -> fmt::Result {
         for name in self.0 {
             write!(f, " {}", Hex(name))?;
+        }
+        Ok(())
+    }
+}
+
+/// The number that was noted of each machine of a script, a space before each.
+struct Noted<'a>(&'a BTreeMap<u32, u32>);
+
+impl fmt::Display for Noted<'_> {
+    fn fmt(&self, f: &mut fmt::Formatter) -> fmt::Result {
+        for machine in MACHINES {
+            write!(f, " {}", self.0.get(&machine).unwrap_or(&0))?;
         }
         Ok(())
     }
@@ -188,24 +245,70 @@ impl fmt::Display for Quoted<'_> {
     }
 }
 
+/// How a script is played.
+#[derive(Clone, Copy, Debug, Default, PartialEq, Eq)]
+pub struct Manner {
+    /// Whether the promise is checked after each line.
+    pub check: bool,
+    /// A wrong rule to play by.
+    pub variant: Option<Variant>,
+}
+
+/// Why a script is not played to its end.
+#[derive(Debug)]
+pub enum Failure {
+    /// It cannot be read, or an answer cannot be written.
+    Io(io::Error),
+    /// The promise is broken after the line of this number.
+    Broken(u64, Broken),
+}
+
+impl From<io::Error> for Failure {
+    fn from(error: io::Error) -> Self {
+        Failure::Io(error)
+    }
+}
+
+impl fmt::Display for Failure {
+    fn fmt(&self, f: &mut fmt::Formatter) -> fmt::Result {
+        match self {
+            Failure::Io(error) => error.fmt(f),
+            Failure::Broken(line, broken) => {
+                write!(f, "the promise is broken after line {line}: {broken}")
+            }
+        }
+    }
+}
+
 /// Plays the script `input` and writes its answers to `output`.
-pub fn play(input: impl Read, output: impl Write) -> io::Result<()> {
+pub fn play(input: impl Read, output: impl Write, manner: Manner) -> Result<(), Failure> {
     let mut input = BufReader::with_capacity(1 << 16, input);
     let mut output = BufWriter::new(output);
-    let mut machines = Machines::new(Store::new(MACHINES));
+    let mut world = World::new(MACHINES).with_variant(manner.variant);
+    let mut checker = manner.check.then(Checker::new);
     let mut line = Vec::new();
     let mut number = 0u64;
     loop {
         let answer = match next_line(&mut input, &mut line)? {
-            Next::End => return output.flush(),
-            Next::Line => answer(&line, &mut machines),
+            Next::End => return Ok(output.flush()?),
+            Next::Line => answer(&line, &mut world),
             Next::TooLong => Some(Err(Fault::TooLong)),
         };
         number += 1;
+        let mut event = Event::Other;
         match answer {
             None => {}
-            Some(Ok(answer)) => answer.write(&mut output)?,
+            Some(Ok((done, answer))) => {
+                event = done;
+                answer.write(&mut output)?;
+            }
             Some(Err(fault)) => writeln!(output, "line {number}: {fault}")?,
+        }
+        if let Some(checker) = &mut checker {
+            if let Err(broken) = checker.check(event, &world) {
+                output.flush()?;
+                return Err(Failure::Broken(number, broken));
+            }
         }
     }
 }
@@ -251,15 +354,19 @@ fn next_line(input: &mut impl BufRead, line: &mut Vec<u8>) -> io::Result<Next> {
     }
 }
 
-/// What is to be written for a line of an allowed length; `None` is nothing.
-fn answer<'a>(line: &'a [u8], machines: &'a mut Machines) -> Option<Result<Answer<'a>, Fault<'a>>> {
+/// What is to be written for a line of an allowed length, and what was done;
+/// `None` is nothing.
+fn answer<'a>(
+    line: &'a [u8],
+    world: &'a mut World,
+) -> Option<Result<(Event, Answer<'a>), Fault<'a>>> {
     let line = line.strip_suffix(b"\r").unwrap_or(line);
     let mut words = line
         .split(|byte| matches!(byte, b' ' | b'\t'))
         .filter(|word| !word.is_empty());
     match words.next()? {
         [b'#', ..] => None,
-        name => Some(Step::parse(name, words).and_then(|step| Ok(step.play(machines)?))),
+        name => Some(Step::parse(name, words).and_then(|step| Ok(step.play(world)?))),
     }
 }
 
@@ -273,6 +380,13 @@ enum Step<'a> {
     Name(u32),
     Break(u32),
     Go(u32, u32),
+    Part(u32),
+    Look,
+    Aside,
+    Note,
+    Decide,
+    Next,
+    Stop,
     Show,
 }
 
@@ -297,37 +411,80 @@ impl<'a> Step<'a> {
                     parse_number(number, u32::MAX)?,
                 )
             }
-            b"show" => {
-                let [] = exactly(words, "show")?;
-                Step::Show
-            }
+            b"part" => Step::Part(parse_machine(words, "part M")?),
+            b"look" => Step::alone(Step::Look, words, "look")?,
+            b"aside" => Step::alone(Step::Aside, words, "aside")?,
+            b"note" => Step::alone(Step::Note, words, "note")?,
+            b"decide" => Step::alone(Step::Decide, words, "decide")?,
+            b"next" => Step::alone(Step::Next, words, "next")?,
+            b"stop" => Step::alone(Step::Stop, words, "stop")?,
+            b"show" => Step::alone(Step::Show, words, "show")?,
             other => return Err(Fault::NoStep(other)),
         })
     }
 
-    fn play(self, machines: &mut Machines) -> Result<Answer<'_>, Refusal> {
+    /// The step, whose name is its whole line.
+    fn alone(
+        self,
+        words: impl Iterator<Item = &'a [u8]>,
+        line: &'static str,
+    ) -> Result<Self, Fault<'a>> {
+        let [] = exactly(words, line)?;
+        Ok(self)
+    }
+
+    fn play(self, world: &mut World) -> Result<(Event, Answer<'_>), Refusal> {
+        let World { machines, sweeper } = world;
+        let store = &mut machines.store;
         Ok(match self {
-            Step::Digest(bytes) => Answer::Digest(digest(&bytes)),
-            Step::Cut(file) => Answer::Pieces(cut(&file)?),
+            Step::Digest(bytes) => (Event::Other, Answer::Digest(digest(&bytes))),
+            Step::Cut(file) => (Event::Other, Answer::Pieces(cut(&file)?)),
             Step::Begin(machine) => {
                 machines.begin(machine)?;
-                Answer::Begun
+                (Event::Begun(machine), Answer::Begun)
             }
             Step::See(machine, piece) => {
                 let piece = piece.at_most(MOST).ok_or(Refusal::PieceTooLong)?;
-                Answer::Seen(machines.see(machine, &piece)?)
+                let seen = machines.see(machine, &piece)?;
+                let (Seen::Found(name) | Seen::Written(name)) = seen;
+                (Event::Seen(machine, name), Answer::Seen(seen))
             }
-            Step::Raise(machine) => Answer::Raised(machines.raise(machine)?),
-            Step::Name(machine) => Answer::Named(machines.name(machine)?),
+            Step::Raise(machine) => (Event::Other, Answer::Raised(machines.raise(machine)?)),
+            Step::Name(machine) => {
+                let number = machines.name(machine)?;
+                (Event::Named(machine, number), Answer::Named(number))
+            }
             Step::Break(machine) => {
                 machines.break_off(machine)?;
-                Answer::BrokenOff
+                (Event::BrokenOff(machine), Answer::BrokenOff)
             }
             Step::Go(machine, number) => {
-                machines.store.let_go(machine, number)?;
-                Answer::LetGo
+                store.let_go(machine, number)?;
+                (Event::LetGo(machine, number), Answer::LetGo)
             }
-            Step::Show => Answer::Show(machines),
+            Step::Part(machine) => {
+                machines.part(machine)?;
+                (Event::Parted(machine), Answer::Parted)
+            }
+            Step::Look => (Event::Looked, Answer::Looked(sweeper.look(store)?)),
+            Step::Aside => {
+                let name = sweeper.put_aside(store)?;
+                (Event::PutAside(name), Answer::PutAside(name))
+            }
+            Step::Note => {
+                sweeper.note(store)?;
+                (Event::Other, Answer::Noted)
+            }
+            Step::Decide => {
+                let (back, away) = sweeper.decide(store)?;
+                (Event::Ending, Answer::Decided(back, away))
+            }
+            Step::Next => (Event::Ending, Answer::Moved(sweeper.next(store)?)),
+            Step::Stop => {
+                sweeper.stop(store);
+                (Event::Stopped, Answer::Stopped)
+            }
+            Step::Show => (Event::Other, Answer::Show(world)),
         })
     }
 }
@@ -499,8 +656,12 @@ mod tests {
     const FILE_TOO_LONG: &str = "line 1: refused by 1: a file has at most 16777216 bytes\n";
 
     fn played(script: impl Read) -> String {
+        played_as(script, Manner::default())
+    }
+
+    fn played_as(script: impl Read, manner: Manner) -> String {
         let mut output = Vec::new();
-        play(script, &mut output).expect("memory takes all writes");
+        play(script, &mut output, manner).expect("memory takes all writes");
         String::from_utf8(output).expect("answers are ASCII")
     }
 
@@ -713,7 +874,8 @@ mod tests {
     fn show() {
         answers(
             b"show",
-            "machine 0 0 none\nmachine 1 0 none\nmachine 2 0 none\nmachine 3 0 none\n",
+            "machine 0 0 none\nmachine 1 0 none\nmachine 2 0 none\nmachine 3 0 none\n\
+             sweeper rests\n",
         );
         let places = format!(
             "place NAME 3\n\
@@ -736,6 +898,7 @@ mod tests {
                  machine 1 0 makes {EMPTY}\
                  machine 2 0 none\n\
                  machine 3 2 names 2\n\
+                 sweeper rests\n\
                  found NAME\nraised 1\nnamed 2\nbroken off\nbegun\nfound NAME\nfound {EMPTY}\
                  {places}\
                  day 3 1 NAME NAME\n\
@@ -743,7 +906,8 @@ mod tests {
                  machine 0 1 names 1 NAME\n\
                  machine 1 0 makes NAME {EMPTY}\
                  machine 2 0 none\n\
-                 machine 3 2 none\n"
+                 machine 3 2 none\n\
+                 sweeper rests\n"
             ),
         );
     }
@@ -759,6 +923,70 @@ mod tests {
         );
     }
 
+    /// All that `show` writes of the sweeper, and a machine that is gone.
+    #[test]
+    fn sweeping() {
+        let last = |script: &str| {
+            let answers = played(format!("{script}\nshow").as_bytes());
+            answers.lines().last().map(str::to_owned)
+        };
+        let check = |script: &str, sweeper: &str| {
+            let sweeper = sweeper.replace("NAME", ABC.trim_end());
+            let sweeper = sweeper.replace("NO", EMPTY.trim_end());
+            assert_eq!(last(script), Some(format!("sweeper {sweeper}")));
+        };
+        let script = "begin 1\nsee 1\nsee 1 616263\nraise 1\nlook";
+        check(script, "puts aside NAME NO");
+        let script = &format!("{script}\naside");
+        check(script, "puts aside NO");
+        check(&format!("{script}\nstop"), "rests");
+        let script = &format!("{script}\naside");
+        check(script, "puts aside");
+        let script = &format!("{script}\npart 3\nnote");
+        check(script, "waits 0 1 0 0");
+        let days = "begin 0\nraise 0\nname 0\npart 1\nbegin 2\nsee 2 616263\nraise 2\nname 2";
+        let script = &format!("{script}\nstop\n{days}\ndecide");
+        check(script, "ends, back NAME, away NO");
+        check(&format!("{script}\nstop"), "is to decide anew");
+        let script = &format!("{script}\nnext");
+        check(script, "ends, back, away NO");
+        check(&format!("{script}\nstop\ndecide"), "ends, back, away NO");
+        check(&format!("{script}\ngo 2 1"), "ends, back, away NO");
+        let script = &format!("{script}\nnext");
+        check(script, "rests");
+        machines_answer(
+            &format!("{script}\nshow"),
+            &format!(
+                "begun\nwritten {EMPTY}written NAME\nraised 1\nto put aside 2\n\
+                 put aside NAME\nput aside {EMPTY}parted\nnoted\nstopped\n\
+                 begun\nraised 1\nnamed 1\nparted\nbegun\nwritten NAME\nraised 1\nnamed 1\n\
+                 to put back 1, to throw away 1\nput back NAME\nthrown away {EMPTY}\
+                 place NAME 3\n\
+                 listed 1 NAME\n\
+                 listed 1 {EMPTY}\
+                 listed 2 NAME\n\
+                 listed sweeper NAME\n\
+                 listed sweeper {EMPTY}\
+                 day 0 1\n\
+                 day 2 1 NAME\n\
+                 machine 0 1 none\n\
+                 machine 1 1 parted\n\
+                 machine 2 1 none\n\
+                 machine 3 0 parted\n\
+                 sweeper rests\n"
+            ),
+        );
+        // The promise is kept all along.
+        let manner = Manner {
+            check: true,
+            variant: None,
+        };
+        assert_eq!(
+            played_as(script.as_bytes(), manner),
+            played(script.as_bytes())
+        );
+    }
+
     #[test]
     fn refusals() {
         let absent = "refused by 1: there is no such machine, day or path";
@@ -768,12 +996,21 @@ mod tests {
         let raised =
             "refused by 3: the day has its number already, and is to be named or broken off";
         let not_raised = "refused by 3: the day has no number yet, which is to be raised first";
+        let point = "refused by 4: the sweeper is not at that point";
+        let since = "refused by 4: a machine has finished no day since";
         for (before, line, answer) in [
             ("", "begin 4", absent),
             ("", "see 4 61", absent),
             ("", "raise 4", absent),
             ("", "name 64", absent),
             ("", "break 4294967295", absent),
+            ("", "part 4", absent),
+            ("begin 1\npart 1", "part 1", absent),
+            ("begin 1\npart 1", "begin 1", absent),
+            ("begin 1\npart 1", "see 1 61", absent),
+            ("begin 1\npart 1", "raise 1", absent),
+            ("begin 1\nraise 1\npart 1", "name 1", absent),
+            ("begin 1\npart 1", "break 1", absent),
             ("", "go 0 0", absent),
             ("", "go 4 1", absent),
             ("begin 0", "go 0 1", absent),
@@ -791,6 +1028,26 @@ mod tests {
             ("begin 0\nraise 0", "see 0 repeat 61 65537", long),
             ("", "see 0 random 1 1073741824", long),
             ("", "see 4 repeat 61 65537", long),
+            ("", "aside", point),
+            ("", "note", point),
+            ("", "decide", point),
+            ("", "next", point),
+            ("look", "look", point),
+            ("look", "aside", point),
+            ("begin 0\nsee 0 61\nlook", "note", point),
+            ("look", "decide", point),
+            ("look", "next", point),
+            ("look\nnote", "look", point),
+            ("look\nnote", "aside", point),
+            ("look\nnote", "note", point),
+            ("look\nnote", "next", point),
+            ("look\nnote", "decide", since),
+            ("look\nnote\nstop", "decide", since),
+            (
+                "begin 0\nlook\nnote\npart 1\npart 2\npart 3\nraise 0",
+                "decide",
+                since,
+            ),
         ] {
             let script = |lines: &[&str]| played(lines.join("\n").as_bytes());
             let answers = script(&[before, line]);
@@ -825,6 +1082,14 @@ mod tests {
             ("go 0", "go M N"),
             ("go x", "go M N"),
             ("go 0 0 0", "go M N"),
+            ("part", "part M"),
+            ("part 0 0", "part M"),
+            ("look 0", "look"),
+            ("aside x", "aside"),
+            ("note 0 0", "note"),
+            ("decide #", "decide"),
+            ("next next", "next"),
+            ("stop 61", "stop"),
             ("show 0", "show"),
             ("show #", "show"),
         ] {
@@ -840,6 +1105,7 @@ mod tests {
                 format!("raise {word}"),
                 format!("name {word}"),
                 format!("break {word}"),
+                format!("part {word}"),
                 format!("go {word} y"),
                 format!("go 0 {word}"),
             ] {

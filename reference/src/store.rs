@@ -2,11 +2,14 @@
 //! of it.
 
 use crate::refusal::Refusal;
-use crate::sha256::Digest;
+use crate::sha256::{sha256, Digest};
 use std::collections::{BTreeMap, BTreeSet};
 
 /// The names that all lists together may have.
 pub const MAX_LISTED: usize = 262_144;
+
+/// The highest number that a machine may have as its own.
+pub const LAST_MACHINE: u32 = 63;
 
 #[derive(Clone, Debug, Default, PartialEq, Eq)]
 pub struct Store {
@@ -18,10 +21,25 @@ pub struct Store {
     pub aside: BTreeMap<Digest, Vec<u8>>,
     /// The names in the list of each machine.
     pub listed: BTreeSet<(u32, Digest)>,
+    /// The names in the list of the sweeper.
+    pub sweeper_listed: BTreeSet<Digest>,
     /// The pieces of each day, by the day's machine and number.
     pub days: BTreeMap<(u32, u32), Vec<Digest>>,
     /// The highest number of each machine that has raised one.
     pub highest: BTreeMap<u32, u32>,
+    /// What the sweeper does.
+    pub sweeper: Kept,
+}
+
+/// What is kept of what the sweeper does.
+#[derive(Clone, Debug, Default, PartialEq, Eq)]
+pub enum Kept {
+    #[default]
+    Rests,
+    /// With the highest number of each machine that it has noted; none is 0.
+    Waits(BTreeMap<u32, u32>),
+    /// It puts back and throws away.
+    Ends,
 }
 
 impl Store {
@@ -37,6 +55,15 @@ impl Store {
         self.machines.contains(&machine)
     }
 
+    /// Takes a machine off the list of machines.
+    pub fn take_off_list(&mut self, machine: u32) -> Result<(), Refusal> {
+        if self.machines.remove(&machine) {
+            Ok(())
+        } else {
+            Err(Refusal::NotThere)
+        }
+    }
+
     /// The bytes in a piece's place, of that name or not.
     pub fn read(&self, name: &Digest) -> Option<&[u8]> {
         self.place.get(name).map(Vec::as_slice)
@@ -47,14 +74,44 @@ impl Store {
         self.aside.get(name).map(Vec::as_slice)
     }
 
+    /// Whether the piece is in its place, so that its very bytes lie there.
+    pub fn in_place(&self, name: &Digest) -> bool {
+        self.read(name).is_some_and(|bytes| sha256(bytes) == *name)
+    }
+
+    /// The same aside.
+    pub fn is_aside(&self, name: &Digest) -> bool {
+        let bytes = self.read_aside(name);
+        bytes.is_some_and(|bytes| sha256(bytes) == *name)
+    }
+
     /// Adds a name to the list of a machine.
     pub fn list(&mut self, machine: u32, name: Digest) -> Result<(), Refusal> {
         let entry = (machine, name);
-        if self.listed.len() >= MAX_LISTED && !self.listed.contains(&entry) {
+        if self.lists_are_full() && !self.listed.contains(&entry) {
             return Err(Refusal::ListsFull);
         }
         self.listed.insert(entry);
         Ok(())
+    }
+
+    /// Adds a name to the list of the sweeper.
+    pub fn list_for_sweeper(&mut self, name: Digest) -> Result<(), Refusal> {
+        if self.lists_are_full() && !self.sweeper_listed.contains(&name) {
+            return Err(Refusal::ListsFull);
+        }
+        self.sweeper_listed.insert(name);
+        Ok(())
+    }
+
+    fn lists_are_full(&self) -> bool {
+        self.listed.len() + self.sweeper_listed.len() >= MAX_LISTED
+    }
+
+    /// The names in all lists, some of them more than once.
+    pub fn all_listed(&self) -> impl Iterator<Item = &Digest> {
+        let machines = self.listed.iter().map(|(_, name)| name);
+        machines.chain(&self.sweeper_listed)
     }
 
     pub fn write(&mut self, name: Digest, bytes: &[u8]) {
@@ -98,6 +155,17 @@ impl Store {
         }
         self.days.insert((machine, number), pieces.to_vec());
         Ok(())
+    }
+
+    /// The machine, the number and the pieces of each day. Days are found by their
+    /// numbers, up to the highest of their machine.
+    pub fn each_day(&self) -> impl Iterator<Item = (u32, u32, &[Digest])> {
+        (0..=LAST_MACHINE).flat_map(|machine| {
+            let days = self.days.range((machine, 1)..);
+            let last = (machine, self.highest(machine));
+            let days = days.take_while(move |(&day, _)| day <= last);
+            days.map(|(&(machine, number), pieces)| (machine, number, &pieces[..]))
+        })
     }
 
     pub fn let_go(&mut self, machine: u32, number: u32) -> Result<(), Refusal> {
@@ -188,6 +256,66 @@ mod tests {
         assert_eq!(store.list(0, name(0)), Ok(()));
         assert_eq!(store.list(1, name(MAX_LISTED / 2 - 1)), Ok(()));
         assert_eq!(store.listed.len(), MAX_LISTED);
+    }
+
+    /// The sweeper's list counts, too.
+    #[test]
+    fn full_with_the_sweeper() {
+        let mut store = Store::new([0]);
+        for at in 0..MAX_LISTED / 2 {
+            assert_eq!(store.list(0, name(at)), Ok(()));
+            assert_eq!(store.list_for_sweeper(name(at)), Ok(()));
+            assert_eq!(store.list_for_sweeper(name(at)), Ok(()));
+        }
+        let more = name(MAX_LISTED);
+        assert_eq!(store.list(0, more), Err(Refusal::ListsFull));
+        assert_eq!(store.list(1, name(0)), Err(Refusal::ListsFull));
+        assert_eq!(store.list_for_sweeper(more), Err(Refusal::ListsFull));
+        assert_eq!(store.list(0, name(0)), Ok(()));
+        assert_eq!(store.list_for_sweeper(name(0)), Ok(()));
+        assert_eq!(store.all_listed().count(), MAX_LISTED);
+    }
+
+    #[test]
+    fn the_very_bytes() {
+        let name = sha256(b"a");
+        let mut store = Store::new([0]);
+        assert!(!store.in_place(&name) && !store.is_aside(&name));
+        store.write(name, b"a");
+        assert!(store.in_place(&name) && !store.is_aside(&name));
+        store.put_aside(name);
+        assert!(!store.in_place(&name) && store.is_aside(&name));
+        for other in [&b""[..], b"b", b"aa"] {
+            store.write(name, other);
+            assert!(!store.in_place(&name));
+            store.put_aside(name);
+            assert!(!store.is_aside(&name));
+        }
+    }
+
+    #[test]
+    fn the_list_of_machines() {
+        let mut store = Store::new([0, 3]);
+        assert_eq!(store.take_off_list(1), Err(Refusal::NotThere));
+        assert_eq!(store.take_off_list(3), Ok(()));
+        assert_eq!(store.take_off_list(3), Err(Refusal::NotThere));
+        assert!(store.has_machine(0) && !store.has_machine(3));
+    }
+
+    /// Whether a machine is on the list makes no difference.
+    #[test]
+    fn days_are_found_by_their_numbers() {
+        let mut store = Store::new([0]);
+        for day in [(0, 0), (0, 1), (0, 3), (0, 4), (2, 7), (63, 1), (64, 1)] {
+            store.name_day(day.0, day.1, &[]).expect("no day has it");
+        }
+        for (machine, highest) in [(0, 3), (2, u32::MAX), (63, 1), (64, 1)] {
+            store.set_highest(machine, highest);
+        }
+        let days = store
+            .each_day()
+            .map(|(machine, number, _)| (machine, number));
+        assert!(days.eq([(0, 1), (0, 3), (2, 7), (63, 1)]));
     }
 
     #[test]
