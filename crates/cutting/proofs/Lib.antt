@@ -1,5 +1,5 @@
 mod Window
 mod Cuts
-mod Keeps
+pub mod Keeps
 mod Collected
 mod Further

@@ -3,12 +3,16 @@
 use Rattle.std.specs.Prelude.{ℕ, cond, List, ◌++◌, Some, None, codes, decimal, Option, nat_le}
 use Rattle.std.specs.Option.{unwrap_or}
 use Rattle.cutting.specs.declared.refusal.Refusal.{Refusal}
-use Rattle.cutting.specs.declared.refusal.Refusal.TheVariants.{FileTooLong, PieceTooLong, Unknown, BadDay, DayIsThere, MakesDay, MakesNone, HasNumber, HasNoNumber, NotAtThatPoint, Unfinished, TooManyNames, LastNumber, NoMemory, ReadOrWrite}
+use Rattle.cutting.specs.declared.refusal.Refusal.TheVariants.{FileTooLong, PieceTooLong, PieceEmpty, BadPath, PathNotAbove, TooManyFiles, Unknown, BadDay, DayIsThere, MakesDay, MakesNone, HasNumber, HasNoNumber, NotAtThatPoint, Unfinished, TooManyNames, LastNumber, NoMemory, ReadOrWrite}
 
 -- the number of a refusal; want of memory and a failed read or write have none
 abbrev pub number_of : Refusal → Option ℕ
 number_of FileTooLong = Some 1
 number_of PieceTooLong = Some 1
+number_of PieceEmpty = Some 1
+number_of BadPath = Some 1
+number_of PathNotAbove = Some 1
+number_of TooManyFiles = Some 1
 number_of Unknown = Some 1
 number_of BadDay = Some 2
 number_of DayIsThere = Some 2
@@ -35,6 +39,10 @@ lowest a b = cond (nat_le (rank a) (rank b)) a b
 abbrev pub words : Refusal → List ℕ
 words FileTooLong = codes "a file has at most 16777216 bytes"
 words PieceTooLong = codes "a piece has at most 65536 bytes"
+words PieceEmpty = codes "a piece has at least one byte"
+words BadPath = codes "a path has from 1 to 255 bytes"
+words PathNotAbove = codes "a path must be above the one before it"
+words TooManyFiles = codes "a day has at most 4096 files"
 words Unknown = codes "there is no such machine, day or path"
 words BadDay = codes "a day is damaged or incomplete"
 words DayIsThere = codes "there is a day of that number already"

@@ -11,6 +11,10 @@ pub enum Refusal {
     // 1: limits, and names that there are not
     FileTooLong,
     PieceTooLong,
+    PieceEmpty,
+    BadPath,
+    PathNotAbove,
+    TooManyFiles,
     Unknown,
     // 2: a day that is damaged or incomplete, or has the name that another is to have
     BadDay,
@@ -38,7 +42,13 @@ impl Refusal {
         ensures { result ≡ number_of self }
     {
         match self {
-            Refusal::FileTooLong | Refusal::PieceTooLong | Refusal::Unknown => Some(1),
+            Refusal::FileTooLong
+            | Refusal::PieceTooLong
+            | Refusal::PieceEmpty
+            | Refusal::BadPath
+            | Refusal::PathNotAbove
+            | Refusal::TooManyFiles
+            | Refusal::Unknown => Some(1),
             Refusal::BadDay | Refusal::DayIsThere => Some(2),
             Refusal::MakesDay | Refusal::MakesNone | Refusal::HasNumber | Refusal::HasNoNumber =>
                 Some(3),
@@ -70,6 +80,10 @@ impl Refusal {
         match self {
             Refusal::FileTooLong => "a file has at most 16777216 bytes",
             Refusal::PieceTooLong => "a piece has at most 65536 bytes",
+            Refusal::PieceEmpty => "a piece has at least one byte",
+            Refusal::BadPath => "a path has from 1 to 255 bytes",
+            Refusal::PathNotAbove => "a path must be above the one before it",
+            Refusal::TooManyFiles => "a day has at most 4096 files",
             Refusal::Unknown => "there is no such machine, day or path",
             Refusal::BadDay => "a day is damaged or incomplete",
             Refusal::DayIsThere => "there is a day of that number already",

@@ -11,7 +11,7 @@ use Rattle.store.specs.declared.piece.Spot.{Spot}
 use Rattle.store.specs.declared.sweep.Sweep.{Sweep}
 use Rattle.store.specs.Effects as effects
 use Rattle.store.specs.Effects.{Does, enlist, lies, with_aside, with_day, with_highest, with_listing, with_own, with_place, with_sweep}
-use Rattle.store.specs.Requests.{Request, HasMachine, Read, Enlist, Write, Highest, Raise, NameDay, LetGo, PutAside, PutBack, ThrowAway, NamesOf, OwnNames, EnlistOwn, PiecesOf, Kept, Keep, Answer, Done, Told, Bytes, Number, Names, Pieces, Sweeping, Refused}
+use Rattle.store.specs.Requests.{Request, HasMachine, Read, Enlist, Write, Highest, Raise, NameDay, LetGo, PutAside, PutBack, ThrowAway, NamesOf, OwnNames, EnlistOwn, ReadDay, Kept, Keep, Answer, Done, Told, Bytes, Number, Names, Sweeping, Refused}
 use Rattle.store.specs.State.{State, is_in, most_names}
 
 -- the two parts of an effect
@@ -119,10 +119,10 @@ threw s t n b x =
     let f : Told b ≡ Told (is_some (s.aside n)) = sym e.0 in
     (cc, e.1)
 
-pub named : (s t : State) (d : DayName) (ps : List Digest) → Does s (NameDay d ps) Done t → (s.days d ≡ None) × (with_day d (Some ps) s ≡ t)
+pub named : (s t : State) (d : DayName) (ps : List ℕ) → Does s (NameDay d ps) Done t → (s.days d ≡ None) × (with_day d (Some ps) s ≡ t)
 named s t d ps x = go (s.days d) refl
   where
-    go : (o : Option (List Digest)) → s.days d ≡ o → (s.days d ≡ None) × (with_day d (Some ps) s ≡ t)
+    go : (o : Option (List ℕ)) → s.days d ≡ o → (s.days d ≡ None) × (with_day d (Some ps) s ≡ t)
     go None h = (h, rw h at (did Done refl x).1)
     go (Some y) h =
         let f : Refused DayIsThere ≡ Done = rw h at (did Done refl x).0 in
@@ -131,16 +131,16 @@ named s t d ps x = go (s.days d) refl
 pub gone : (s t : State) (d : DayName) → Does s (LetGo d) Done t → IsSome (s.days d) × (with_day d None s ≡ t)
 gone s t d x = go (s.days d) refl
   where
-    go : (o : Option (List Digest)) → s.days d ≡ o → IsSome (s.days d) × (with_day d None s ≡ t)
+    go : (o : Option (List ℕ)) → s.days d ≡ o → IsSome (s.days d) × (with_day d None s ≡ t)
     go (Some y) h = (rw h refl, rw h at (did Done refl x).1)
     go None h =
         let f : Refused Unknown ≡ Done = rw h at (did Done refl x).0 in
         absurd cc
 
-pub pieces_of : (s t : State) (d : DayName) (ps : Option (List Digest)) → Does s (PiecesOf d) (Pieces ps) t → (t ≡ s) × (s.days d ≡ ps)
-pieces_of s t d ps x =
-    let e = did (Pieces ps) refl x in
-    let f : Pieces (s.days d) ≡ Pieces ps = e.0 in
+pub read_day : (s t : State) (d : DayName) (b : Option (List ℕ)) → Does s (ReadDay d) (Bytes b) t → (t ≡ s) × (s.days d ≡ b)
+read_day s t d b x =
+    let e = did (Bytes b) refl x in
+    let f : Bytes (s.days d) ≡ Bytes b = e.0 in
     (sym e.1, cc)
 
 -- what is kept of what the sweeper does
@@ -169,7 +169,7 @@ refused s t q r (inr h) = h.2
 refused s t (HasMachine i) r (inl e) = sym (state_is e)
 refused s t (Read spot n) r (inl e) = sym (state_is e)
 refused s t (Highest i) r (inl e) = sym (state_is e)
-refused s t (PiecesOf d) r (inl e) = sym (state_is e)
+refused s t (ReadDay d) r (inl e) = sym (state_is e)
 refused s t Kept r (inl e) = sym (state_is e)
 refused s t (Write n b) r (inl e) = absurd (not_refused Done r refl (answer_is e))
 refused s t (Raise i n) r (inl e) = absurd (not_refused Done r refl (answer_is e))
@@ -181,11 +181,11 @@ refused s t (Enlist l) r (inl e) = not_enlisted (s.listed l) s _ t r e
 refused s t (EnlistOwn n) r (inl e) = not_enlisted (s.own n) s _ t r e
 refused s t (NameDay d ps) r (inl e) = go (s.days d) refl
   where
-    go : (o : Option (List Digest)) → s.days d ≡ o → t ≡ s
+    go : (o : Option (List ℕ)) → s.days d ≡ o → t ≡ s
     go (Some x) h = sym (rw h at (state_is e))
     go None h = absurd (not_refused Done r refl (rw h at (answer_is e)))
 refused s t (LetGo d) r (inl e) = go (s.days d) refl
   where
-    go : (o : Option (List Digest)) → s.days d ≡ o → t ≡ s
+    go : (o : Option (List ℕ)) → s.days d ≡ o → t ≡ s
     go None h = sym (rw h at (state_is e))
     go (Some x) h = absurd (not_refused Done r refl (rw h at (answer_is e)))

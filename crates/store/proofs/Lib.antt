@@ -1,4 +1,5 @@
 pub mod Equality
 pub mod Exact
+pub mod Loops
 pub mod States
 pub mod Tables

@@ -1,6 +1,6 @@
 -- What the store in memory holds after a change: under one name, in one list, of one day or of one machine.
 -- Assumes nothing.
-use Rattle.std.proofs.Common.{◌≡◌, ℕ, ◌∙◌, ◌+◌, ◌<◌, ◌≤◌, ◌&&◌, ◌||◌, arith, Bool, true, false, cond, List, [], ◌∷◌, Some, None, Option, refl, sym, ap, length}
+use Rattle.std.proofs.Common.{◌≡◌, ℕ, ◌∙◌, ◌+◌, ◌<◌, ◌≤◌, ◌&&◌, ◌||◌, arith, Bool, true, false, cond, Decides, List, [], ◌∷◌, Ok, Err, Some, None, Option, Result, refl, subst, sym, ap, length}
 use Rattle.std.specs.BTreeMap as tree
 use Rattle.std.specs.BTreeMap.{BTreeMap, is_at}
 use Rattle.std.specs.BTreeSet as sorted
@@ -10,18 +10,21 @@ use Rattle.std.specs.Prelude.{is_some, nat_eq, nat_le, unwrap_or, vec_items, Vec
 use Rattle.std.specs.List.{cons_option, filter_map, list_any}
 use Rattle.std.specs.Ordering.{nat_cmp}
 use Rattle.std.proofs.lemmas.Bool.Decides.{nat_tests}
+use Rattle.cutting.specs.declared.refusal.Refusal.{Refusal}
 use Rattle.cutting.specs.declared.refusal.Refusal.TheVariants.{DayIsThere, TooManyNames, Unknown}
 use Rattle.std.specs.declared.alloc.Global.{Global}
-use Rattle.std.specs.Option.{option_and_then, option_map}
+use Rattle.std.specs.Option.{IfSome, option_and_then, option_map}
 use Rattle.digest.specs.declared.value.Digest.{Digest}
 use Rattle.store.specs.declared.day.DayName.{DayName}
 use Rattle.store.specs.declared.listing.Listing.{Listing}
 use Rattle.store.specs.declared.memory.Copies.{Copies}
 use Rattle.store.specs.declared.memory.Memory.{Memory}
-use Rattle.store.specs.Effects.{effect, enlist, needs_memory, put_aside, put_back, with_aside, with_day, with_listing, with_own, with_place}
+use Rattle.store.specs.declared.piece.Spot.TheVariants.{Place, Aside}
+use Rattle.store.specs.Damages.{Damages}
+use Rattle.store.specs.Effects.{effect, enlist, lies, needs_memory, put_aside, put_back, with_aside, with_day, with_listing, with_lying, with_own, with_place}
 use Rattle.store.specs.Requests.{Done, LetGo, NameDay, PutAside, PutBack, Raise, Refused, ThrowAway, Told, Write}
 use Rattle.store.specs.Memories.{day_cmp, listing_cmp, name_cmp, state_of}
-use Rattle.store.proofs.Equality.{is_eq_nat, is_eq_then, names_decide}
+use Rattle.store.proofs.Equality.{days_decide, is_eq_nat, is_eq_then, names_decide}
 use Rattle.store.specs.State.{State, is_in, most_names, same_day, same_listing, same_name}
 
 -- a choice that comes to the same
@@ -37,19 +40,22 @@ cond_again : {A : Type 0} (b : Bool) (x y z : A) → cond b x (cond b y z) ≡ c
 cond_again true x y z = refl
 cond_again false x y z = refl
 
-is_some_map : (o : Option (Vec Digest Global)) → is_some (option_map vec_items o) ≡ is_some o
+is_some_map : {X : Type 0} (o : Option (Vec X Global)) → is_some (option_map vec_items o) ≡ is_some o
 is_some_map None = refl
 is_some_map (Some x) = refl
 
 -- what is there already, put there again
-update_same : {A : Type 0} (f : Digest → Option A) (n : Digest) (w : Option A) → w ≡ f n → (q : Digest) → update same_name f n w q ≡ f q
-update_same f n w e q = cond_same (same_name n q) w (f q) (λ h. e ∙ ap f ((names_decide n q).0 h))
+update_same : {K A : Type 0} (same : K → K → Bool) → ((x y : K) → Decides (same x y) (x ≡ y)) → (f : K → Option A) (k : K) (w : Option A) → w ≡ f k → (q : K) → update same f k w q ≡ f q
+update_same same decide f k w e q = cond_same (same k q) w (f q) (λ h. e ∙ ap f ((decide k q).0 h))
 
 same_place : (s : State) (n : Digest) (w : Option (List ℕ)) → w ≡ s.place n → with_place n w s ≡ s
-same_place s n w e = λ i. record s { place = λ q. update_same s.place n w e q i }
+same_place s n w e = λ i. record s { place = λ q. update_same same_name names_decide s.place n w e q i }
 
 same_aside : (s : State) (n : Digest) (w : Option (List ℕ)) → w ≡ s.aside n → with_aside n w s ≡ s
-same_aside s n w e = λ i. record s { aside = λ q. update_same s.aside n w e q i }
+same_aside s n w e = λ i. record s { aside = λ q. update_same same_name names_decide s.aside n w e q i }
+
+same_file : (s : State) (d : DayName) (w : Option (List ℕ)) → w ≡ s.days d → with_day d w s ≡ s
+same_file s d w e = λ i. record s { days = λ q. update_same same_day days_decide s.days d w e q i }
 
 -- what lies in its place, and aside, where a name has copies or none
 abbrev pub place_of : Option Copies → Option (List ℕ)
@@ -71,7 +77,7 @@ Change-lent m p n c w e h = record { was = e; is = (h.3 (sym (ap is_some e))).0 
 -- nothing is lent
 pub Change-none : (m : Memory) (p : BTreeMap Digest Copies) (n : Digest)
     → None ≡ tree.get name_cmp m.pieces n → p ≡ m.pieces → Change m p n None None
-Change-none m p n e h = record { was = e; is = λ q. ap (λ p. tree.get name_cmp p q) h ∙ sym (update_same (tree.get name_cmp m.pieces) n None e q) }
+Change-none m p n e h = record { was = e; is = λ q. ap (λ p. tree.get name_cmp p q) h ∙ sym (update_same same_name names_decide (tree.get name_cmp m.pieces) n None e q) }
 
 -- one after the other
 pub Change-again : (m : Memory) (p r : BTreeMap Digest Copies) (n : Digest) (old new last : Option Copies)
@@ -117,6 +123,17 @@ module _ {m : Memory} {p : BTreeMap Digest Copies} {n : Digest} {old new : Optio
 
   pub has_thrown_away : Change m p n old new → (r : Bool) → is_some (aside_of old) ≡ r → place_of old ≡ place_of new → None ≡ aside_of new → effect (state_of m) (ThrowAway n) ≡ (Told r, state_of (record m { pieces = p }))
   has_thrown_away h r w e f = λ i. (Told ((sym (ap (λ o. is_some (aside_of o)) h.was) ∙ w) i), after_aside h None f e i)
+
+  -- and so what damage has done
+  pub has_damaged_place : Change m p n old new → aside_of old ≡ aside_of new → (least : ℕ) (harm : List ℕ → List ℕ) (r : Result (Unit {0}) Refusal)
+      → Damages (place_of old) least harm (λ b _. b) (place_of old) r (place_of new) → Damages (lies Place (state_of m) n) least harm (with_lying Place n) (state_of m) r (state_of (record m { pieces = p }))
+  has_damaged_place h f least harm (Ok x) d = (d.0, sym (ap place_of h.was) ∙ d.1, d.2, sym (after_place h (Some (harm d.0)) (sym d.3) f))
+  has_damaged_place h f least harm (Err r) d = (d.0, subst (λ o. IfSome (place_of o) (λ b. length b < least)) h.was d.1, sym (after_nothing h (sym d.2) f))
+
+  pub has_damaged_aside : Change m p n old new → place_of old ≡ place_of new → (least : ℕ) (harm : List ℕ → List ℕ) (r : Result (Unit {0}) Refusal)
+      → Damages (aside_of old) least harm (λ b _. b) (aside_of old) r (aside_of new) → Damages (lies Aside (state_of m) n) least harm (with_lying Aside n) (state_of m) r (state_of (record m { pieces = p }))
+  has_damaged_aside h f least harm (Ok x) d = (d.0, sym (ap aside_of h.was) ∙ d.1, d.2, sym (after_aside h (Some (harm d.0)) (sym d.3) f))
+  has_damaged_aside h f least harm (Err r) d = (d.0, subst (λ o. IfSome (aside_of o) (λ b. length b < least)) h.was d.1, sym (after_nothing h f (sym d.2)))
 
 -- with the same entries the store holds the same
 pub same_pieces : (m : Memory) (p : BTreeMap Digest Copies) → p.entries ≡ m.pieces.entries → state_of (record m { pieces = p }) ≡ state_of m
@@ -182,15 +199,15 @@ is_in-names m n (l ∷ ls) =
     is_in-if (nat_eq m l.machine) n l.name (filter_map (name_in m) ls) ∙ (λ i. sym same i || is_in-names m n ls i)
 
 -- the days, after one is named or let go
-module _ (m : Memory) (ds : BTreeMap DayName (Vec Digest Global)) (d : DayName) where
+module _ (m : Memory) (ds : BTreeMap DayName (Vec ℕ Global)) (d : DayName) where
   pub same_days : ds.entries ≡ m.days.entries → state_of (record m { days = ds }) ≡ state_of m
   same_days e = λ i. record (state_of m) { days = λ q. option_map vec_items (lookup (is_at (day_cmp q)) (e i)) }
 
-  after_day : (w : Option (Vec Digest Global)) → ((q : DayName) → tree.get day_cmp ds q ≡ cond (same_day d q) w (tree.get day_cmp m.days q))
+  after_day : (w : Option (Vec ℕ Global)) → ((q : DayName) → tree.get day_cmp ds q ≡ cond (same_day d q) w (tree.get day_cmp m.days q))
       → with_day d (option_map vec_items w) (state_of m) ≡ state_of (record m { days = ds })
   after_day w h = λ i. record (state_of m) { days = λ q. sym (ap (option_map vec_items) (h q) ∙ cond_ap (option_map vec_items) (same_day d q) w (tree.get day_cmp m.days q)) i }
 
-  pub has_named : (v : Vec Digest Global) (ps : List Digest) → v.items ≡ ps → is_some (tree.get day_cmp m.days d) ≡ false
+  pub has_named : (v : Vec ℕ Global) (ps : List ℕ) → v.items ≡ ps → is_some (tree.get day_cmp m.days d) ≡ false
       → ((q : DayName) → tree.get day_cmp ds q ≡ cond (same_day d q) (Some v) (tree.get day_cmp m.days q))
       → effect (state_of m) (NameDay d ps) ≡ (Done, state_of (record m { days = ds }))
   has_named v ps e new h =
@@ -208,7 +225,15 @@ module _ (m : Memory) (ds : BTreeMap DayName (Vec Digest Global)) (d : DayName) 
       let s : State = state_of m in
       (λ i. cond ((is_some_map (tree.get day_cmp m.days d) ∙ none) i) (Done, with_day d None s) (Refused Unknown, s)) ∙ (λ i. (Refused Unknown, sym (same_days e) i))
 
-pub has_day : (m : Memory) (d : DayName) (ps : List Digest) → is_some (tree.get day_cmp m.days d) ≡ true → effect (state_of m) (NameDay d ps) ≡ (Refused DayIsThere, state_of m)
+  -- and after one is damaged
+  pub has_damaged_day : (c w : Vec ℕ Global) → Some c ≡ tree.get day_cmp m.days d → tree.WritesThrough day_cmp (day_cmp d) m.days w ds → (least : ℕ) (harm : List ℕ → List ℕ) (r : Result (Unit {0}) Refusal)
+      → Damages (Some c.items) least harm (λ b _. b) (Some c.items) r (Some w.items) → Damages ((state_of m).days d) least harm (with_day d) (state_of m) r (state_of (record m { days = ds }))
+  has_damaged_day c w e h least harm (Ok x) a =
+      (a.0, ap (option_map vec_items) (sym e) ∙ a.1, a.2, sym (after_day (Some w) (h.3 (sym (ap is_some e))).0) ∙ (λ i. with_day d (a.3 i) (state_of m)))
+  has_damaged_day c w e h least harm (Err r) a =
+      (a.0, subst (λ o. IfSome (option_map vec_items o) (λ b. length b < least)) e a.1, sym (after_day (Some w) (h.3 (sym (ap is_some e))).0) ∙ same_file (state_of m) d (Some w.items) (a.2 ∙ ap (option_map vec_items) e))
+
+pub has_day : (m : Memory) (d : DayName) (ps : List ℕ) → is_some (tree.get day_cmp m.days d) ≡ true → effect (state_of m) (NameDay d ps) ≡ (Refused DayIsThere, state_of m)
 has_day m d ps old =
     let s : State = state_of m in
     λ i. cond ((is_some_map (tree.get day_cmp m.days d) ∙ old) i) (Refused DayIsThere, s) (Done, with_day d (Some ps) s)
@@ -225,5 +250,5 @@ module _ (m : Memory) (hs : BTreeMap ℕ ℕ) where
       λ i. (Done, record (state_of m) { highest = λ q. sym (at q) i })
 
 -- where memory may be wanting
-pub wants_day : (m : Memory) (d : DayName) (ps : List Digest) → is_some (tree.get day_cmp m.days d) ≡ false → needs_memory (state_of m) (NameDay d ps) ≡ true
+pub wants_day : (m : Memory) (d : DayName) (ps : List ℕ) → is_some (tree.get day_cmp m.days d) ≡ false → needs_memory (state_of m) (NameDay d ps) ≡ true
 wants_day m d ps new = λ i. cond ((is_some_map (tree.get day_cmp m.days d) ∙ new) i) false true

@@ -77,9 +77,9 @@ in_spot Aside c = option_map vec_items c.aside
 abbrev pub length_in : Spot → Copies → Option ℕ
 length_in spot c = option_map length (in_spot spot c)
 
--- a day's pieces
-abbrev pub pieces_of : Vec Digest Global → Option (List Digest)
-pieces_of ps = Some (vec_items ps)
+-- the bytes of a day
+abbrev pub file_of : Vec ℕ Global → Option (List ℕ)
+file_of b = Some (vec_items b)
 
 pub name_total : IsTotalOrder name_cmp
 name_total = on_total (λ (n : Digest). n.bytes) nat_list_cmp_total
@@ -96,5 +96,5 @@ pub lies_there : (spot : Spot) (m : Memory) (n : Digest) → option_and_then (le
 lies_there Place m n = map_then length (in_spot Place) (tree.get name_cmp m.pieces n)
 lies_there Aside m n = map_then length (in_spot Aside) (tree.get name_cmp m.pieces n)
 
-pub day_there : (m : Memory) (d : DayName) → option_and_then pieces_of (tree.get day_cmp m.days d) ≡ (state_of m).days d
-day_there m d = elim (tree.get day_cmp m.days d) as (λ o. option_and_then pieces_of o ≡ option_map vec_items o) [ None ↦ refl | Some ps ↦ refl ]
+pub day_there : (m : Memory) (d : DayName) → option_and_then file_of (tree.get day_cmp m.days d) ≡ (state_of m).days d
+day_there m d = elim (tree.get day_cmp m.days d) as (λ o. option_and_then file_of o ≡ option_map vec_items o) [ None ↦ refl | Some ps ↦ refl ]

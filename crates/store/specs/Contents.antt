@@ -25,9 +25,9 @@ pub record Lists {K V : Type 0} (cmp : K → K → Ordering) (there : K → Opti
 abbrev pub ListsPieces : (Digest → Option (List ℕ)) → List Lying → Type 0
 ListsPieces lies xs = Lists name_cmp (λ n. option_map length (lies n)) (map (λ x. (x.name, x.length)) xs)
 
--- the days, each with its pieces
-abbrev pub ListsDays : (DayName → Option (List Digest)) → List ListedDay → Type 0
-ListsDays days xs = Lists day_cmp days (map (λ x. (x.name, vec_items x.pieces)) xs)
+-- the days, each with the bytes that lie under its name
+abbrev pub ListsDays : (DayName → Option (List ℕ)) → List ListedDay → Type 0
+ListsDays days xs = Lists day_cmp days (map (λ x. (x.name, vec_items x.file)) xs)
 
 -- the names in the lists of the machines: each once, in order, and no other
 pub record ListsNames (listed : Listing → Bool) (xs : List Listing) : Type 0 where

@@ -9,7 +9,7 @@ use Rattle.store.specs.declared.listing.Listing.{Listing}
 use Rattle.store.specs.declared.piece.Spot.{Spot}
 use Rattle.store.specs.declared.piece.Spot.TheVariants.{Place, Aside}
 use Rattle.store.specs.declared.sweep.Sweep.{Sweep}
-use Rattle.store.specs.Requests.{Request, HasMachine, Read, Enlist, Write, PutAside, PutBack, ThrowAway, Highest, Raise, NameDay, LetGo, NamesOf, OwnNames, EnlistOwn, PiecesOf, Kept, Keep, Answer, Done, Told, Bytes, Number, Names, Pieces, Sweeping, Refused}
+use Rattle.store.specs.Requests.{Request, HasMachine, Read, Enlist, Write, PutAside, PutBack, ThrowAway, Highest, Raise, NameDay, LetGo, NamesOf, OwnNames, EnlistOwn, ReadDay, Kept, Keep, Answer, Done, Told, Bytes, Number, Names, Sweeping, Refused}
 use Rattle.store.specs.State.{State, is_in, most_names, same_day, same_listing, same_name}
 
 -- what lies there under a name
@@ -24,6 +24,10 @@ with_place n bytes s = record s { place = update same_name s.place n bytes }
 abbrev pub with_aside : Digest → Option (List ℕ) → State → State
 with_aside n bytes s = record s { aside = update same_name s.aside n bytes }
 
+abbrev pub with_lying : Spot → Digest → Option (List ℕ) → State → State
+with_lying Place n bytes s = with_place n bytes s
+with_lying Aside n bytes s = with_aside n bytes s
+
 -- with a name more in a list
 abbrev pub with_listing : Listing → State → State
 with_listing l s = record s { listed = λ q. cond (same_listing l q) true (s.listed q); names = s.names + 1 }
@@ -32,9 +36,9 @@ with_listing l s = record s { listed = λ q. cond (same_listing l q) true (s.lis
 abbrev pub with_own : Digest → State → State
 with_own n s = record s { own = λ q. cond (same_name n q) true (s.own q); names = s.names + 1 }
 
--- with this day under its name, or without one
-abbrev pub with_day : DayName → Option (List Digest) → State → State
-with_day d pieces s = record s { days = update same_day s.days d pieces }
+-- with these bytes under the name of a day, or without such a day
+abbrev pub with_day : DayName → Option (List ℕ) → State → State
+with_day d file s = record s { days = update same_day s.days d file }
 
 -- with this highest number of a machine
 abbrev pub with_highest : ℕ → ℕ → State → State
@@ -72,10 +76,10 @@ effect s (PutBack n) = put_back n (s.aside n) s
 effect s (ThrowAway n) = (Told (is_some (s.aside n)), with_aside n None s)
 effect s (Highest m) = (Number (s.highest m), s)
 effect s (Raise m n) = (Done, with_highest m n s)
-effect s (NameDay d ps) = cond (is_some (s.days d)) (Refused DayIsThere, s) (Done, with_day d (Some ps) s)
+effect s (NameDay d b) = cond (is_some (s.days d)) (Refused DayIsThere, s) (Done, with_day d (Some b) s)
 effect s (LetGo d) = cond (is_some (s.days d)) (Done, with_day d None s) (Refused Unknown, s)
 effect s (EnlistOwn n) = enlist (s.own n) s (with_own n s)
-effect s (PiecesOf d) = (Pieces (s.days d), s)
+effect s (ReadDay d) = (Bytes (s.days d), s)
 effect s Kept = (Sweeping s.sweep, s)
 effect s (Keep x) = (Done, with_sweep x s)
 effect s lists = (Done, s)
@@ -86,9 +90,9 @@ needs_memory s (Read spot n) = is_some (lies spot s n)
 needs_memory s (Enlist l) = cond (s.listed l) false (cond (nat_le most_names s.names) false true)
 needs_memory s (Write n b) = true
 needs_memory s (Raise m n) = true
-needs_memory s (NameDay d ps) = cond (is_some (s.days d)) false true
+needs_memory s (NameDay d b) = cond (is_some (s.days d)) false true
 needs_memory s (EnlistOwn n) = cond (s.own n) false (cond (nat_le most_names s.names) false true)
-needs_memory s (PiecesOf d) = is_some (s.days d)
+needs_memory s (ReadDay d) = is_some (s.days d)
 needs_memory s other = false
 
 -- all names of a list are told, and no others; or there is no memory for them

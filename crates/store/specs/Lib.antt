@@ -1,7 +1,9 @@
 pub mod Asking
 pub mod Contents
+pub mod Damages
 pub mod Effects
 pub mod Lines
+pub mod Loops
 pub mod Memories
 pub mod Requests
 pub mod State

@@ -27,16 +27,16 @@ pub data Request : Type 0 where
   -- the highest number of a machine; and set it
   Highest : (machine : ℕ) → Request
   Raise : (machine : ℕ) → (number : ℕ) → Request
-  -- give a day its name
-  NameDay : DayName → (pieces : List Digest) → Request
+  -- give a day its name: these bytes are to lie under it
+  NameDay : DayName → (file : List ℕ) → Request
   -- let a day go
   LetGo : DayName → Request
   -- the names in the list of a machine, and in the sweeper's; add a name to the sweeper's
   NamesOf : (machine : ℕ) → Request
   OwnNames : Request
   EnlistOwn : (name : Digest) → Request
-  -- the pieces of a day
-  PiecesOf : DayName → Request
+  -- the bytes that lie under the name of a day
+  ReadDay : DayName → Request
   -- what is kept of what the sweeper does; and keep this
   Kept : Request
   Keep : Sweep → Request
@@ -48,7 +48,6 @@ pub data Answer : Type 0 where
   Bytes : Option (List ℕ) → Answer
   Number : ℕ → Answer
   Names : List Digest → Answer
-  Pieces : Option (List Digest) → Answer
   Sweeping : Sweep → Answer
   -- refused, or failed
   Refused : Refusal → Answer
@@ -73,10 +72,6 @@ bytes (Err r) = Refused r
 abbrev pub names : Result (Vec Digest Global) Refusal → Answer
 names (Ok v) = Names (vec_items v)
 names (Err r) = Refused r
-
-abbrev pub pieces : Result (Option (Vec Digest Global)) Refusal → Answer
-pieces (Ok v) = Pieces (option_map vec_items v)
-pieces (Err r) = Refused r
 
 abbrev pub sweeping : Result Sweep Refusal → Answer
 sweeping (Ok x) = Sweeping x

@@ -50,8 +50,8 @@ pub record State : Type 0 where
   pub own : Digest → Bool
   -- how many names all lists have together
   pub names : ℕ
-  -- the pieces of a day, in the order in which they were seen to
-  pub days : DayName → Option (List Digest)
+  -- the bytes that lie under the name of a day, whether they are the file of such a day or not
+  pub days : DayName → Option (List ℕ)
   -- the highest number that a machine ever raised, or 0
   pub highest : ℕ → ℕ
   -- whether a machine is on the list of machines

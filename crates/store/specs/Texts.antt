@@ -1,10 +1,9 @@
 -- What is in a store, in words.
 -- Assumes nothing.
-use Rattle.std.specs.Prelude.{ℕ, List, ◌++◌, codes, decimal, vec_items}
+use Rattle.std.specs.Prelude.{ℕ, List, ◌++◌, codes, decimal}
 use Rattle.std.specs.List.{flat_map}
 use Rattle.digest.specs.declared.value.Digest.{Digest}
 use Rattle.digest.specs.Hex.{hex}
-use Rattle.store.specs.declared.contents.ListedDay.{ListedDay}
 use Rattle.store.specs.declared.contents.Lying.{Lying}
 use Rattle.store.specs.declared.listing.Listing.{Listing}
 
@@ -19,7 +18,3 @@ lying_text x = hex x.name.bytes ++ (codes " " ++ decimal x.length)
 -- a name in a list: the machine, and the name
 abbrev pub listing_text : Listing → List ℕ
 listing_text x = decimal x.machine ++ (codes " " ++ hex x.name.bytes)
-
--- a day: its machine, its number, and the names of its pieces
-abbrev pub day_text : ListedDay → List ℕ
-day_text x = decimal x.name.machine ++ (codes " " ++ (decimal x.name.number ++ names_text (vec_items x.pieces)))

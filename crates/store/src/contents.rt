@@ -18,11 +18,11 @@ pub struct Lying {
     pub length: usize,
 }
 
-// A day and the names of its pieces.
+// A day, and the bytes that lie under its name.
 #[derive(Drop)]
 pub struct ListedDay {
     pub name: DayName,
-    pub pieces: Vec<Digest>,
+    pub file: Vec<u8>,
 }
 
 // Pieces by their names, names in lists by the machine and then the name, days by the machine and then the number.
@@ -87,10 +87,10 @@ impl Memory {
         ensures { IfOk result (λ found. ListsDays (state_of self.now).days (vec_items found)) }
     {
         let mut found = Vec::new(self.heap);
-        for (name, pieces) in self.days.iter() {
+        for (name, file) in self.days.iter() {
             found.push(ListedDay {
                 name: *name,
-                pieces: Vec::from_slice(self.heap, pieces)?,
+                file: Vec::from_slice(self.heap, file)?,
             })?;
         }
         Ok(found)

@@ -2,6 +2,7 @@
 #![tactic(auto)]
 
 mod contents;
+mod damage;
 mod day;
 mod lines;
 mod listing;

@@ -27,7 +27,8 @@ pub struct Memory {
     pub(crate) listed: BTreeSet<Listing>,
     // the sweeper's list
     pub(crate) own: BTreeSet<Digest>,
-    pub(crate) days: BTreeMap<DayName, Vec<Digest>>,
+    // what lies under the names of days
+    pub(crate) days: BTreeMap<DayName, Vec<u8>>,
     highest: BTreeMap<u8, u32>,
     machines: BTreeSet<u8>,
     sweep: Sweep,
@@ -115,16 +116,16 @@ impl Store for Memory {
         Ok(())
     }
 
-    fn name_day(&mut self, day: DayName, pieces: &[Digest]) -> Result<(), Refusal> {
+    fn name_day(&mut self, day: DayName, file: &[u8]) -> Result<(), Refusal> {
         if self.days.contains_key(&day) {
             return Err(Refusal::DayIsThere);
         }
-        self.days.insert(day, Vec::from_slice(self.heap, pieces)?)?;
+        self.days.insert(day, Vec::from_slice(self.heap, file)?)?;
         Ok(())
     }
 
     fn let_go(&mut self, day: DayName) -> Result<(), Refusal> {
-        let Some(_pieces) = self.days.remove(&day) else {
+        let Some(_file) = self.days.remove(&day) else {
             return Err(Refusal::Unknown);
         };
         Ok(())
@@ -153,9 +154,9 @@ impl Store for Memory {
         Ok(())
     }
 
-    fn pieces_of(&mut self, day: DayName) -> Result<Option<Vec<Digest>>, Refusal> {
+    fn read_day(&mut self, day: DayName) -> Result<Option<Vec<u8>>, Refusal> {
         match self.days.get(&day) {
-            Some(pieces) => Ok(Some(Vec::from_slice(self.heap, pieces)?)),
+            Some(file) => Ok(Some(Vec::from_slice(self.heap, file)?)),
             None => Ok(None),
         }
     }

@@ -1,6 +1,6 @@
 // What a store is asked for.
 ghost use Rattle.std.specs.Prelude.{List};
-ghost use Rattle.store.specs.Requests.{Request, Answer, done, told, number, bytes, names, pieces, sweeping};
+ghost use Rattle.store.specs.Requests.{Request, Answer, done, told, number, bytes, names, sweeping};
 ghost use Rattle.store.specs.Requests as request;
 
 use crate::day::DayName;
@@ -51,9 +51,9 @@ pub trait Store {
     fn raise(&mut self, machine: u8, number: u32) -> Result<(), Refusal>
         ensures { does self.old (request.Raise machine number) (done result) self.new };
 
-    // Gives a day its name.
-    fn name_day(&mut self, day: DayName, pieces: &[Digest]) -> Result<(), Refusal>
-        ensures { does self.old (request.NameDay day pieces.now) (done result) self.new };
+    // Gives a day its name: these bytes lie under it then.
+    fn name_day(&mut self, day: DayName, file: &[u8]) -> Result<(), Refusal>
+        ensures { does self.old (request.NameDay day file.now) (done result) self.new };
 
     // Lets a day go.
     fn let_go(&mut self, day: DayName) -> Result<(), Refusal>
@@ -71,9 +71,9 @@ pub trait Store {
     fn enlist_own(&mut self, name: Digest) -> Result<(), Refusal>
         ensures { does self.old (request.EnlistOwn name) (done result) self.new };
 
-    // The pieces of a day, in their order, if there is such a day.
-    fn pieces_of(&mut self, day: DayName) -> Result<Option<Vec<Digest>>, Refusal>
-        ensures { does self.old (request.PiecesOf day) (pieces result) self.new };
+    // What lies under the name of a day, whether it is the file of such a day or not.
+    fn read_day(&mut self, day: DayName) -> Result<Option<Vec<u8>>, Refusal>
+        ensures { does self.old (request.ReadDay day) (bytes result) self.new };
 
     // What is kept of what the sweeper does.
     fn kept(&mut self) -> Result<Sweep, Refusal>

@@ -24,10 +24,10 @@ fn are(told: Result<Vec<Digest>, Refusal>, names: &[Digest]) -> bool {
     }
 }
 
-// Has this day just these pieces?
-fn has_pieces<S: Store>(store: &mut S, day: DayName, names: &[Digest]) -> bool {
-    match store.pieces_of(day) {
-        Ok(Some(pieces)) => pieces.as_slice() == names,
+// Do just these bytes lie under the name of this day?
+fn has_file<S: Store>(store: &mut S, day: DayName, bytes: &[u8]) -> bool {
+    match store.read_day(day) {
+        Ok(Some(file)) => file.as_slice() == bytes,
         _ => false,
     }
 }
@@ -85,11 +85,11 @@ fn days_are_named_and_let_go(rt: HostRuntime) -> Result<(), Fail> {
     assert!(rt; store.highest(7) == Ok(0), "no number yet");
     assert!(rt; store.raise(7, 1).is_ok(), "raised");
     assert!(rt; store.highest(7) == Ok(1), "its number");
-    assert!(rt; matches!(store.pieces_of(day), Ok(None)), "no such day");
-    assert!(rt; store.name_day(day, &[name]).is_ok(), "named");
-    assert!(rt; has_pieces(&mut store, day, &[name]), "its pieces");
+    assert!(rt; matches!(store.read_day(day), Ok(None)), "no such day");
+    assert!(rt; store.name_day(day, b"file").is_ok(), "named");
+    assert!(rt; has_file(&mut store, day, b"file"), "its bytes");
     assert!(rt;
-        store.name_day(day, &[]) == Err(Refusal::DayIsThere),
+        store.name_day(day, b"") == Err(Refusal::DayIsThere),
         "its name is taken"
     );
     assert!(rt; store.let_go(day).is_ok(), "let go");
@@ -180,7 +180,7 @@ fn contents_are_listed(rt: HostRuntime) -> Result<(), Fail> {
     );
     assert!(rt; store.put_aside(aside) == Ok(true), "put aside");
     assert!(rt;
-        store.enlist(listing).is_ok() && store.name_day(day, &[kept]).is_ok(),
+        store.enlist(listing).is_ok() && store.name_day(day, b"file").is_ok(),
         "a day"
     );
     assert!(rt; store.enlist_own(aside).is_ok(), "in the sweeper's list");
@@ -210,8 +210,78 @@ fn contents_are_listed(rt: HostRuntime) -> Result<(), Fail> {
     assert!(rt;
         contents.days.len() == 1
             && contents.days[0].name == day
-            && contents.days[0].pieces.as_slice() == [kept].as_slice(),
+            && contents.days[0].file.as_slice() == b"file".as_slice(),
         "a day"
     );
+    Ok(())
+}
+
+#[test]
+fn pieces_are_damaged(rt: HostRuntime) -> Result<(), Fail> {
+    let Ok(mut store) = Memory::new(rt.alloc(), &[]) else {
+        return Err(Fail::new("no store"));
+    };
+    let name = sha256(b"abc");
+    assert!(rt;
+        store.flip(Spot::Place, name, 0) == Err(Refusal::Unknown),
+        "no such piece"
+    );
+    assert!(rt; store.write(name, b"abc").is_ok(), "written");
+    assert!(rt;
+        store.flip(Spot::Place, name, 3) == Err(Refusal::Unknown)
+            && store.flip(Spot::Aside, name, 0) == Err(Refusal::Unknown),
+        "no such byte, and nothing aside"
+    );
+    assert!(rt; store.flip(Spot::Place, name, 2).is_ok(), "flipped");
+    assert!(rt;
+        lies(&mut store, Spot::Place, name, b"ab\x9c"),
+        "its last byte"
+    );
+    assert!(rt; store.flip(Spot::Place, name, 2).is_ok(), "flipped again");
+    assert!(rt; lies(&mut store, Spot::Place, name, b"abc"), "undone");
+    assert!(rt;
+        store.put_aside(name) == Ok(true) && store.write(name, b"abc").is_ok(),
+        "aside and in its place"
+    );
+    assert!(rt; store.flip(Spot::Aside, name, 0).is_ok(), "flipped aside");
+    assert!(rt;
+        lies(&mut store, Spot::Aside, name, b"\x9ebc")
+            && lies(&mut store, Spot::Place, name, b"abc"),
+        "aside alone"
+    );
+    Ok(())
+}
+
+#[test]
+fn days_are_damaged(rt: HostRuntime) -> Result<(), Fail> {
+    let Ok(mut store) = Memory::new(rt.alloc(), &[7]) else {
+        return Err(Fail::new("no store"));
+    };
+    let day = DayName {
+        machine: 7,
+        number: 1,
+    };
+    assert!(rt;
+        store.flip_day(day, 0) == Err(Refusal::Unknown)
+            && store.cut_day(day, 0) == Err(Refusal::Unknown),
+        "no such day"
+    );
+    assert!(rt; store.name_day(day, b"file").is_ok(), "named");
+    assert!(rt;
+        store.flip_day(day, 4) == Err(Refusal::Unknown),
+        "no such byte"
+    );
+    assert!(rt; store.flip_day(day, 0).is_ok(), "flipped");
+    assert!(rt; has_file(&mut store, day, b"\x99ile"), "its first byte");
+    assert!(rt; store.flip_day(day, 0).is_ok(), "flipped again");
+    assert!(rt; has_file(&mut store, day, b"file"), "undone");
+    assert!(rt;
+        store.cut_day(day, 5) == Err(Refusal::Unknown),
+        "it is not so long"
+    );
+    assert!(rt; store.cut_day(day, 4).is_ok(), "nothing to cut");
+    assert!(rt; has_file(&mut store, day, b"file"), "all of it");
+    assert!(rt; store.cut_day(day, 2).is_ok(), "cut");
+    assert!(rt; has_file(&mut store, day, b"fi"), "its first bytes");
     Ok(())
 }

@@ -1,9 +1,8 @@
 // What is in a store, in words.
 ghost use Rattle.std.specs.Prelude.{Some};
-ghost use Rattle.store.specs.Texts.{day_text, listing_text, lying_text};
+ghost use Rattle.store.specs.Texts.{listing_text, lying_text};
 
-use crate::contents::{ListedDay, Lying};
-use crate::lines::write_each;
+use crate::contents::Lying;
 use crate::listing::Listing;
 use std::fmt;
 
@@ -20,14 +19,5 @@ impl fmt::Display for Listing {
 
     fn fmt<W: fmt::Write>(&self, f: &mut fmt::Formatter<W>) -> fmt::Result {
         write!(f, "{} {}", self.machine, self.name)
-    }
-}
-
-impl fmt::Display for ListedDay {
-    ghost output = { λ x. Some (day_text x) };
-
-    fn fmt<W: fmt::Write>(&self, f: &mut fmt::Formatter<W>) -> fmt::Result {
-        write!(f, "{} {}", self.name.machine, self.name.number)?;
-        write_each(" ", &self.pieces, "", f)
     }
 }
