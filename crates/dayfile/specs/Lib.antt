@@ -1,0 +1,10 @@
+pub mod Adding
+pub mod Days
+pub mod Entries
+pub mod Files
+pub mod Form
+pub mod Limits
+pub mod Paths
+pub mod Reading
+pub mod Reads
+pub mod Stored
