@@ -1,68 +1,119 @@
 -- What the steps of a machine have done.
 -- Assumes nothing.
-use Rattle.std.proofs.Common.{◌≡◌, inl, inr, ℕ, ◌+◌, ◌∷◌, [], ◌++◌, List, true, Some, None, Ok, Err, Option, Result, ap, sym, refl, ◌∙◌, arith}
+use Rattle.std.proofs.Common.{◌≡◌, inl, inr, ◌⊎◌, ℕ, zero, suc, ◌+◌, ◌∷◌, [], List, true, false, Bool, length, map, take_all, nat_le, cond, slice_index_or, Some, None, Ok, Err, Option, Result, ap, sym, subst, refl, ◌∙◌, arith}
+use Rattle.std.proofs.lemmas.Cmp.{nat_cmp_total}
 use Rattle.std.proofs.lemmas.Grind.{common_steps}
-use Rattle.cutting.specs.declared.refusal.Refusal.{Refusal}
-use Rattle.cutting.specs.declared.refusal.Refusal.TheVariants.{NoMemory, PieceTooLong}
 use Rattle.cutting.specs.Refusals.{number_of}
+use Rattle.cutting.specs.Rule.{pieces}
+use Rattle.cutting.specs.declared.refusal.Refusal.{Refusal}
+use Rattle.cutting.specs.declared.refusal.Refusal.TheVariants.{NoMemory, PieceEmpty, PieceTooLong, TooManyNames}
 use Rattle.digest.specs.declared.value.Digest.{Digest}
 use Rattle.digest.specs.Digests.{digest_of}
+use Rattle.dayfile.specs.Form.{day_file}
+use Rattle.store.specs.Asking.{Doing, IsExact}
 use Rattle.store.specs.declared.day.DayName.{DayName}
+use Rattle.store.specs.declared.listing.Listing.{Listing}
 use Rattle.store.specs.declared.piece.Spot.TheVariants.{Place}
-use Rattle.store.specs.Effects.{Does, with_day, with_highest, with_place}
-use Rattle.store.specs.Requests.{Read, Write, Highest, Raise, NameDay, Done, Refused}
-use Rattle.store.specs.State.{State, last_number}
+use Rattle.store.specs.Effects.{Does, with_day, with_highest, with_listing}
+use Rattle.store.specs.Loops.{Go, Times, at}
+use Rattle.store.specs.Requests.{Answer, Read, Enlist, Write, Highest, Raise, Done, Bytes, Refused}
+use Rattle.store.specs.State.{State, last_number, most_names}
+use Rattle.days.specs.declared.done.Added.{Added as Count}
 use Rattle.days.specs.declared.done.Done.{Done as StepDone}
-use Rattle.days.specs.declared.done.Done.TheVariants.{Begun, Found, Written, Raised, Named, BrokenOff}
-use Rattle.store.specs.Asking.{Doing}
-use Rattle.days.specs.Machines.{Work}
-use Rattle.days.specs.Promise.{Promised, Steps}
-use Rattle.days.specs.Steps.{DayRaises, DaySees, Ends, ForDay, GoesOn, Names, NoDay, NotNamed, NotRaised, Raises, Sees, Unseen, enlist}
-use Rattle.store.specs.Asking.{IsExact}
-use Rattle.store.proofs.Exact.{highest, named, raised, read, wrote}
+use Rattle.days.specs.declared.done.Done.TheVariants.{Begun, Found, Written, Added, Raised, Named, BrokenOff}
+use Rattle.days.specs.Machines.{Work, with_file}
+use Rattle.days.specs.Promise.{AllInPlace, OnlyWrites, Promised, Steps, file_entry}
+use Rattle.days.specs.Steps.{Adds, DayAdds, DayRaises, DaySees, Ends, ForDay, GoesOn, Names, NoDay, NotNamed, NotRaised, Raises, Sees, SeesPiece, SeesTo, enlist, entry, name, place_path}
+use Rattle.store.proofs.Exact.{enlisted, highest, named, raised, read}
+use Rattle.days.proofs.Cuts.{whole_entry}
 use Rattle.days.proofs.Moves.{compares_equal, not_on, on, unmoved}
-use Rattle.std.proofs.lemmas.Cmp.{nat_cmp_total, nat_list_cmp_total}
-
--- what was put under a name lies there
-placed : (n : Digest) (b : List ℕ) (s : State) → (with_place n (Some b) s).place n ≡ Some b
-placed n b s = rw (compares_equal nat_list_cmp_total n.bytes) refl
+use Rattle.days.proofs.Seen.{all_seen, each_is_done, each_is_stopped, listed_only, only_same, only_then, seen_to}
 
 set_highest : (i k : ℕ) (s : State) → (with_highest i k s).highest i ≡ k
 set_highest i k s = grind (arith, common_steps)
 
-day_there : (d : DayName) (ps : List Digest) (s : State) → (with_day d (Some ps) s).days d ≡ Some ps
-day_there d ps s = rw (compares_equal nat_cmp_total d.machine, compares_equal nat_cmp_total d.number) refl
+day_there : (d : DayName) (file : List ℕ) (s : State) → (with_day d (Some file) s).days d ≡ Some file
+day_there d file s = rw (compares_equal nat_cmp_total d.machine, compares_equal nat_cmp_total d.number) refl
 
--- a piece is not written only for want of memory
-not_written : (s t : State) (n : Digest) (b : List ℕ) (r : Refusal) → Does s (Write n b) (Refused r) t → r ≡ NoMemory
-not_written s t n b r (inl e) =
-    let f : Done ≡ Refused r = ap (λ x. x.0) e in
-    absurd cc
-not_written s t n b r (inr h) =
-    let f : Refused r ≡ Refused NoMemory = h.1 in
+-- a refusal with a number is none for want of memory
+numbered : (r : Refusal) (k : ℕ) → number_of r ≡ Some k → r ≡ NoMemory → ⊥
+numbered r k e f =
+    let g : None ≡ Some k = sym (ap number_of f) ∙ e in
     cc
 
+-- nothing is read, and a piece is not written, only for want of memory; a name is not listed also where the lists are full
+wanting : (p : Answer × State) (w : Bool) (s t : State) (r : Refusal) → (p.0 ≡ Refused r → r ≡ NoMemory) → (p ≡ (Refused r, t)) ⊎ ((w ≡ true) × (Refused r ≡ Refused NoMemory) × (t ≡ s)) → r ≡ NoMemory
+wanting p w s t r f (inl e) = f (ap (λ x. x.0) e)
+wanting p w s t r f (inr (is, e, same)) = cc
+
+not_read : (s t : State) (n : Digest) (r : Refusal) → Does s (Read Place n) (Refused r) t → r ≡ NoMemory
+not_read s t n r h = wanting _ _ s t r (λ (e : Bytes (s.place n) ≡ Refused r). absurd cc) h
+
+not_written : (s t : State) (n : Digest) (b : List ℕ) (r : Refusal) → Does s (Write n b) (Refused r) t → r ≡ NoMemory
+not_written s t n b r h = wanting _ _ s t r (λ (e : Done ≡ Refused r). absurd cc) h
+
+not_enlisted : (there full : Bool) (s t u : State) (r : Refusal) → ◌≡◌ {A = Answer × State} (cond there (Done, s) (cond full (Refused TooManyNames, s) (Done, t))) (Refused r, u) → r ≡ TooManyNames
+not_enlisted true full s t u r e =
+    let f : Done ≡ Refused r = ap (λ x. x.0) e in
+    absurd cc
+not_enlisted false true s t u r e =
+    let f : Refused TooManyNames ≡ Refused r = ap (λ x. x.0) e in
+    cc
+not_enlisted false false s t u r e =
+    let f : Done ≡ Refused r = ap (λ x. x.0) e in
+    absurd cc
+
+not_listed : (s t : State) (l : Listing) (r : Refusal) → Does s (Enlist l) (Refused r) t → (r ≡ NoMemory) ⊎ (r ≡ TooManyNames)
+not_listed s t l r (inl e) = inr (not_enlisted (s.listed l) (nat_le most_names s.names) s (with_listing l s) t r e)
+not_listed s t l r (inr (is, e, same)) = inl cc
+
+-- before the first go
+no_times : {S U : Type 0} (go : ℕ → Go S U) (k : ℕ) (s t : S) (u v : U) → k ≡ 0 → Times go k s u t v → t ≡ s
+unfolding Times
+no_times go zero s t u v e h = h.0
+no_times go (suc k) s t u v e h = absurd (omega arith)
+
 module _ {S : Type 0} (does : Doing S) (holds : S → State) (exact : IsExact holds does) where
-  day_seen : (i : ℕ) (p : List ℕ) (w v : Work) (s t : S) (d : StepDone) → DaySees does i p w s (Ok d) v t → ((holds t).place (digest_of p) ≡ Some p) × (v.pieces ≡ w.pieces ++ digest_of p ∷ [])
-  day_seen i p w v s t (Found n) (is, o, g, (m, asked, last)) =
-      let k = read _ _ Place (digest_of p) (Some p) (exact s m _ _ asked) in
-      (ap (λ (z : State). z.place (digest_of p)) (ap holds last ∙ k.0) ∙ k.1, ap (λ (x : Work). x.pieces) g)
-  day_seen i p w v s t (Written n) (is, o, g, b, other, (m, asked, (m', listed, (m'', written, last)))) =
-      (ap (λ (z : State). z.place (digest_of p)) (ap holds last ∙ sym (wrote _ _ (digest_of p) p (exact m' m'' _ _ written))) ∙ placed (digest_of p) p (holds m'), ap (λ (x : Work). x.pieces) g)
-  day_seen i p w v s t Begun h = absurd h
-  day_seen i p w v s t (Raised k) h = absurd h
-  day_seen i p w v s t (Named k) h = absurd h
-  day_seen i p w v s t BrokenOff h = absurd h
+  one_seen : (i : ℕ) (path p : List ℕ) (w v : Work) (s t : S) (c : Count) → DayAdds does i path (p ∷ []) w s (Ok c) v t → ((holds t).place (digest_of p) ≡ Some p) × (v ≡ with_file (entry path (p ∷ [])) w)
+  unfolding Times
+  one_seen i path p w v s t c (may, all, count, g) =
+      let (m, x, before, (b, sees, n)) = each_is_done [] (SeesPiece does i) (p ∷ []) s t 0 c.written all in
+      ((seen_to does holds exact i p m t b sees).there, g)
 
   seen : (i : ℕ) (p : List ℕ) (old new : Option Work) (s t : S) (d : StepDone) → Sees does i p old s (Ok d) new t →
-      ((holds t).place (digest_of p) ≡ Some p) × (w v : Work) × (old ≡ Some w) × (new ≡ Some v) × (v.pieces ≡ w.pieces ++ digest_of p ∷ [])
-  seen i p old new s t d (inl h) =
-      let f : Ok d ≡ Err PieceTooLong = h.1 in
+      ((holds t).place (digest_of p) ≡ Some p) × (w : Work) × (old ≡ Some w) × (new ≡ Some (with_file (entry (place_path (length w.files + 1)) (p ∷ [])) w))
+  seen i p old new s t d (inl (none, is, same, h)) =
+      let f : Ok d ≡ Err PieceEmpty = is in
       absurd cc
-  seen i p old new s t d (inr (fits, inl (r, is, same, h))) =
+  seen i p old new s t d (inr (inl (long, is, same, h))) =
+      let f : Ok d ≡ Err PieceTooLong = is in
+      absurd cc
+  seen i p old new s t d (inr (inr (some, fits, inl (r, is, same, h)))) =
       let f : Ok d ≡ Err r = is in
       absurd cc
-  seen i p old new s t d (inr (fits, inr (w, e, m, k, (v, f, h)))) = let x = day_seen i p w v m t d h in (x.0, w, v, e, f, x.1)
+  seen i p old new s t d (inr (inr (some, fits, inr (w, e, m, k, (v, f, h))))) = let x = both d h in (x.0, w, e, f ∙ ap Some x.1)
+    where
+      both : (d : StepDone) → DaySees does i p w m (Ok d) v t → ((holds t).place (digest_of p) ≡ Some p) × (v ≡ with_file (entry (place_path (length w.files + 1)) (p ∷ [])) w)
+      both (Found n) (is, c, count, y) = one_seen i _ p w v m t c y
+      both (Written n) (is, c, count, y) = one_seen i _ p w v m t c y
+      both Begun y = absurd y
+      both (Added k) y = absurd y
+      both (Raised k) y = absurd y
+      both (Named k) y = absurd y
+      both BrokenOff y = absurd y
+
+  added : (i : ℕ) (path file : List ℕ) (old new : Option Work) (s t : S) (a : Count) → Adds does i path file old s (Ok (Added a)) new t →
+      (w : Work) × (old ≡ Some w) × (new ≡ Some (with_file (file_entry path file) w)) × AllInPlace (holds t) (map digest_of (pieces file)) × (a.pieces ≡ length (pieces file))
+  added i path file old new s t a (inl (r, is, why, same, h)) =
+      let f : Ok (Added a) ≡ Err r = is in
+      absurd cc
+  added i path file old new s t a (inr (short, is_path, inl (r, is, same, h))) =
+      let f : Ok (Added a) ≡ Err r = is in
+      absurd cc
+  added i path file old new s t a (inr (short, is_path, inr (w, e, m, k, (v, f, (may, all, count, g))))) =
+      let ps = pieces file in
+      let x = all_seen does holds exact i ps (length ps) m t 0 a.written (omega arith) (each_is_done [] (SeesPiece does i) ps m t 0 a.written all) in
+      (w, e, f ∙ ap Some (g ∙ ap (λ y. with_file y w) (whole_entry path file)), subst (λ qs. AllInPlace (holds t) (map digest_of qs)) (take_all (length ps) ps (omega arith)) x.all, count)
 
   raises : (i k : ℕ) (old new : Option Work) (s t : S) → Raises does i old s (Ok (Raised k)) new t → (k ≡ (holds s).highest i + 1) × ((holds t).highest i ≡ k)
   raises i k old new s t (inl (r, is, same, h)) =
@@ -75,30 +126,67 @@ module _ {S : Type 0} (does : Doing S) (holds : S → State) (exact : IsExact ho
       )
 
   names : (i k : ℕ) (old new : Option Work) (s t : S) → Names does i old s (Ok (Named k)) new t →
-      (w : Work) × (old ≡ Some w) × (w.number ≡ Some k) × ((holds t).days (record { machine = i; number = k }) ≡ Some w.pieces)
+      (w : Work) × (old ≡ Some w) × (w.number ≡ Some k) × ((holds t).days (record { machine = i; number = k }) ≡ Some (day_file (record { machine = i; number = k }) w.files))
   names i k old new s t (inl (r, is, same, h)) =
       let f : Ok (Named k) ≡ Err r = is in
       absurd cc
   names i k old new s t (inr (w, e, m, l, (f, (n, (m', asked, last))))) =
       let day : DayName = record { machine = i; number = k } in
-      (w, e, n, ap (λ (z : State). z.days day) (ap holds last ∙ sym (named _ _ day w.pieces (exact m m' _ _ asked)).1) ∙ day_there day w.pieces (holds m))
-
-  -- a refusal with a number is none for want of memory
-  numbered : (r : Refusal) (k : ℕ) → number_of r ≡ Some k → r ≡ NoMemory → ⊥
-  numbered r k e f =
-      let g : None ≡ Some k = sym (ap number_of f) ∙ e in
-      cc
+      let file = day_file day w.files in
+      (w, e, n, ap (λ (z : State). z.days day) (ap holds last ∙ sym (named _ _ day file (exact m m' _ _ asked)).1) ∙ day_there day file (holds m))
 
   no_day : (i : ℕ) (old : Option Work) (s t : S) (r : Refusal) → NoDay does i old s r t → holds t ≡ holds s
   no_day i old s t r (inl n) = not_on does holds exact s t i r n
   no_day i old s t r (inr n) = (on does holds exact s t i true n.2).0
 
-  day_unseen : (i k : ℕ) (p : List ℕ) (w : Work) (s t : S) (r : Refusal) → number_of r ≡ Some k → Unseen does i p w s r t → holds t ≡ holds s
-  day_unseen i k p w s t r e (inl (n, is, f, same)) = ap holds same
-  day_unseen i k p w s t r e (inr (o, inl (f, same))) = ap holds same
-  day_unseen i k p w s t r e (inr (o, inr (inl x))) = unmoved does holds exact s t (Read Place (digest_of p)) r x
-  day_unseen i k p w s t r e (inr (o, inr (inr (b, other, inl (m, asked, x))))) = unmoved does holds exact m t (enlist i p) r x ∙ (read _ _ Place (digest_of p) b (exact s m _ _ asked)).0
-  day_unseen i k p w s t r e (inr (o, inr (inr (b, other, inr (m, asked, (m', listed, (m'', written, last))))))) = absurd (numbered r k e (not_written _ _ (digest_of p) p r (exact m' m'' _ _ written)))
+  -- a piece that is not seen to: nothing is changed but where it is not written, for want of memory, after its name was listed
+  record NotSeenTo (r : Refusal) (s t : State) : Type 0 where
+    only : OnlyWrites s t
+    why : (r ≡ NoMemory) ⊎ ((t ≡ s) × (r ≡ TooManyNames))
+
+  not_seen_to : (i : ℕ) (p : List ℕ) (s t : S) (r : Refusal) → SeesTo does i p s (Err r) t → NotSeenTo r (holds s) (holds t)
+  not_seen_to i p s t r (inl (m, asked, last)) = record { only = only_same (unmoved does holds exact s t (Read Place (digest_of p)) r (m, asked, last)); why = inl (not_read _ _ (digest_of p) r (exact s m _ _ asked)) }
+  not_seen_to i p s t r (inr (b, other, inl (m, asked, (m', listed, last)))) =
+      let same : holds t ≡ holds s = unmoved does holds exact m t (enlist i p) r (m', listed, last) ∙ (read _ _ Place (digest_of p) b (exact s m _ _ asked)).0 in
+      record { only = only_same same; why = elim (not_listed _ _ _ r (exact m m' _ _ listed)) [ inl e ↦ inl e | inr e ↦ inr (same, e) ] }
+  not_seen_to i p s t r (inr (b, other, inr (m, asked, (m', listed, (m'', written, last))))) =
+      record {
+        only = only_then (only_same (read _ _ Place (digest_of p) b (exact s m _ _ asked)).0) (only_then (listed_only _ _ _ (enlisted _ _ _ (exact m m' _ _ listed))).0 (only_same (unmoved does holds exact m' t _ r (m'', written, last))));
+        why = inl (not_written _ _ (digest_of p) p r (exact m' m'' _ _ written));
+      }
+
+  -- a file is not added: nothing but pieces is written, and nothing at all where the lists are not full, or where it is one piece
+  record NotAddedTo (ps : List (List ℕ)) (r : Refusal) (w v : Work) (s t : State) : Type 0 where
+    day : v ≡ w
+    only : OnlyWrites s t
+    same : (r ≡ TooManyNames → ⊥) → t ≡ s
+    one : length ps ≡ 1 → t ≡ s
+
+  unchanged : (ps : List (List ℕ)) (r : Refusal) (w v : Work) (s t : S) → v ≡ w → t ≡ s → NotAddedTo ps r w v (holds s) (holds t)
+  unchanged ps r w v s t g same = record { day = g; only = only_same (ap holds same); same = λ f. ap holds same; one = λ f. ap holds same }
+
+  not_added : (i k : ℕ) (path : List ℕ) (ps : List (List ℕ)) (w v : Work) (s t : S) (r : Refusal) → number_of r ≡ Some k → DayAdds does i path ps w s (Err r) v t → NotAddedTo ps r w v (holds s) (holds t)
+  not_added i k path ps w v s t r e (g, inl (is, same)) = unchanged ps r w v s t g same
+  not_added i k path ps w v s t r e (g, inr (inl (is, same))) = unchanged ps r w v s t g same
+  not_added i k path ps w v s t r e (g, inr (inr (inl (n, has, are, is, same)))) = unchanged ps r w v s t g same
+  not_added i k path ps w v s t r e (g, inr (inr (inr (may, c, inr (all, is))))) = absurd (numbered r k e is)
+  not_added i k path ps w v s t r e (g, inr (inr (inr (may, c, inl stopped)))) =
+      let (j, lt, m, y, times, last) = each_is_stopped [] (SeesPiece does i) ps s t 0 c r stopped in
+      let before = all_seen does holds exact i ps j s m 0 y (omega arith) times in
+      let no = not_seen_to i (slice_index_or ps j []) m t r last in
+      elim no.why [
+        | inl is ↦ absurd (numbered r k e is)
+        | inr (same, full) ↦
+            record {
+              day = g;
+              only = only_then before.only no.only;
+              same = λ f. absurd (f full);
+              one = λ f. same ∙ ap holds (no_times (at [] (SeesPiece does i) ps) j s m 0 y (omega arith) times);
+            }
+      ]
+
+  day_not_seen : (i k : ℕ) (p : List ℕ) (w v : Work) (s t : S) (r : Refusal) → number_of r ≡ Some k → DaySees does i p w s (Err r) v t → (holds t ≡ holds s) × (v ≡ w)
+  day_not_seen i k p w v s t r e x = let no = not_added i k (place_path (length w.files + 1)) (p ∷ []) w v s t r e x in (no.one refl, no.day)
 
   day_not_raised : (i : ℕ) (w : Work) (s t : S) (r : Refusal) → NotRaised does i w s r t → holds t ≡ holds s
   day_not_raised i w s t r (inl (n, is, f, same)) = ap holds same
@@ -108,7 +196,8 @@ module _ {S : Type 0} (does : Doing S) (holds : S → State) (exact : IsExact ho
 
   day_not_named : (i : ℕ) (w : Work) (s t : S) (r : Refusal) → NotNamed does i w s r t → holds t ≡ holds s
   day_not_named i w s t r (inl (n, is, same)) = ap holds same
-  day_not_named i w s t r (inr (k, n, x)) = unmoved does holds exact s t (NameDay (record { machine = i; number = k }) w.pieces) r x
+  day_not_named i w s t r (inr (k, n, inl (is, same))) = ap holds same
+  day_not_named i w s t r (inr (k, n, inr x)) = unmoved does holds exact s t (name i k w) r x
 
   -- a step for a day that is refused
   for_day : (step : Work → S → Result StepDone Refusal → Option Work → S → Type 0) (i : ℕ) (old new : Option Work) (s t : S) (r : Refusal) →
@@ -119,9 +208,13 @@ module _ {S : Type 0} (does : Doing S) (holds : S → State) (exact : IsExact ho
   step_refused : (i k : ℕ) (old new : Option Work) (s t : S) (r : Refusal) → number_of r ≡ Some k → Steps does i old s (Err r) new t → (holds t ≡ holds s) × (new ≡ old)
   step_refused i k old new s t r e (inl (same, inl n)) = (not_on does holds exact s t i r n, same)
   step_refused i k old new s t r e (inl (same, inr (w, f, g, l))) = ((on does holds exact s t i true l).0, same)
-  step_refused i k old new s t r e (inr (inl (p, inl (long, is, same, f)))) = (ap holds f, same)
-  step_refused i k old new s t r e (inr (inl (p, inr (fits, x)))) =
-      for_day (GoesOn (DaySees does i p)) i old new s t r (λ w m y. (day_unseen i k p w m t r e y.2.1, y.1 ∙ ap Some y.2.0)) x
+  step_refused i k old new s t r e (inr (inl (p, inl (none, is, same, f)))) = (ap holds f, same)
+  step_refused i k old new s t r e (inr (inl (p, inr (inl (long, is, same, f))))) = (ap holds f, same)
+  step_refused i k old new s t r e (inr (inl (p, inr (inr (some, fits, x))))) =
+      for_day (GoesOn (DaySees does i p)) i old new s t r
+      (λ w m y.
+      let z = day_not_seen i k p w y.0 m t r e y.2 in
+      (z.0, y.1 ∙ ap Some z.1)) x
   step_refused i k old new s t r e (inr (inr (inl x))) =
       for_day (GoesOn (DayRaises does i)) i old new s t r (λ w m y. (day_not_raised i w m t r y.2.1, y.1 ∙ ap Some y.2.0)) x
   step_refused i k old new s t r e (inr (inr (inr (inl x)))) = for_day (Ends does i) i old new s t r (λ w m y. (day_not_named i w m t r y.1, y.0)) x
@@ -131,11 +224,22 @@ module _ {S : Type 0} (does : Doing S) (holds : S → State) (exact : IsExact ho
       let f : Err r ≡ Ok BrokenOff = y.0 in
       absurd cc) x
 
+  add_refused : (i k : ℕ) (path file : List ℕ) (old new : Option Work) (s t : S) (r : Refusal) → number_of r ≡ Some k → Adds does i path file old s (Err r) new t →
+      (new ≡ old) × OnlyWrites (holds s) (holds t) × ((r ≡ TooManyNames → ⊥) → holds t ≡ holds s)
+  add_refused i k path file old new s t r e (inl (q, is, why, same, f)) = (same, only_same (ap holds f), λ full. ap holds f)
+  add_refused i k path file old new s t r e (inr (short, is_path, inl (q, is, same, h))) = let f = no_day i old s t q h in (same, only_same f, λ full. f)
+  add_refused i k path file old new s t r e (inr (short, is_path, inr (w, is, m, l, (v, f, h)))) =
+      let before = (on does holds exact s m i true l).0 in
+      let no = not_added i k path (pieces file) w v m t r e h in
+      (f ∙ ap Some no.day ∙ sym is, only_then (only_same before) no.only, λ full. no.same full ∙ before)
+
 pub kept : {S : Type 0} (does : Doing S) → Promised does
 kept does holds exact =
     record {
       seen = seen does holds exact;
+      added = added does holds exact;
       raised = raises does holds exact;
       named = names does holds exact;
       refused = step_refused does holds exact;
+      add_refused = add_refused does holds exact;
     }

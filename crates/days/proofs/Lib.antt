@@ -1,4 +1,12 @@
 pub mod Cases
+pub mod Cuts
+pub mod HadBack
+pub mod Joining
 pub mod Kept
+pub mod Made
 pub mod Moves
+pub mod Parts
+pub mod Places
+pub mod Seen
+pub mod Untouched
 pub mod Within

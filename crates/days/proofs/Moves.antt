@@ -1,6 +1,6 @@
 -- Steps of the system.
 -- Assumes nothing.
-use Rattle.std.proofs.Common.{◌≡◌, ℕ, suc, inl, inr, ap, sym, subst, refl, ◌∙◌, arith, true, false, Bool, [], ◌∷◌, Option}
+use Rattle.std.proofs.Common.{◌≡◌, ℕ, zero, suc, ◌+◌, ◌≤◌, inl, inr, ap, sym, subst, refl, ◌∙◌, arith, true, false, Bool, [], ◌∷◌, Option}
 use Rattle.std.proofs.lemmas.Grind.{common_steps}
 use Rattle.std.proofs.lemmas.Cmp.{nat_cmp_total, nat_list_cmp_total}
 use Rattle.std.specs.Cmp.{IsTotalOrder}
@@ -51,9 +51,19 @@ listed_here l s =
     rw (m, n) refl
 
 -- fewer steps are so many at most, too
-pub more : {n : ℕ} {u w : World} → Within n u w → Within (suc n) u w
-more still = still
-more (onward r k) = onward (more r) k
+pub at_most : {m n : ℕ} {u w : World} → m ≤ n → Within m u w → Within n u w
+at_most h still = still
+at_most {n = suc n} h (onward r k) = onward (at_most (omega arith) r) k
+at_most {n = zero} h (onward r k) = absurd (omega arith)
+
+-- some steps, and then some more
+pub after : {m n : ℕ} {u v w : World} → Within m u v → Within n v w → Within (n + m) u w
+after r still = at_most (omega arith) r
+after r (onward q k) = at_most (omega arith) (onward (after r q) k)
+
+-- where machine i has made this and then that, it makes that
+pub at_last : {n : ℕ} (u w : World) (i : ℕ) (s t : State) (d new : Option Work) → Within n u (world t i new (world s i d w)) → Within n u (world t i new w)
+at_last {n} u w i s t d new r = subst (λ (g : ℕ → Option Work). Within n u (record { store = t; makes = g })) (put_put i d new w.makes) r
 
 -- nothing has changed
 pub stays : {n : ℕ} (w : World) (i : ℕ) (s : State) (new : Option Work) → s ≡ w.store → new ≡ w.makes i → Within n w (world s i new w)

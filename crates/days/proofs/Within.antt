@@ -1,23 +1,29 @@
--- Each step of a machine over an exact store is a step of the system, or two, or none.
+-- Each step of a machine over an exact store is some steps of the system, or none.
 -- Assumes nothing.
-use Rattle.std.proofs.Common.{◌≡◌, ℕ, ◌+◌, ◌≤◌, inl, inr, ap, sym, subst, refl, ◌∙◌, true, List, length, Some, None, Ok, Err, Option, Result}
+use Rattle.std.proofs.Common.{◌≡◌, ℕ, suc, ◌+◌, ◌*◌, ◌≤◌, inl, inr, ap, sym, subst, refl, ◌∙◌, arith, true, Bool, false, List, [], ◌∷◌, length, map, take, take_all, slice_index_or, Some, None, Ok, Err, Option, Result}
+use Rattle.cutting.specs.Rule.{pieces}
 use Rattle.cutting.specs.declared.refusal.Refusal.{Refusal}
+use Rattle.digest.specs.declared.value.Digest.{Digest}
 use Rattle.digest.specs.Digests.{digest_of}
+use Rattle.dayfile.specs.Form.{day_file}
 use Rattle.store.specs.declared.day.DayName.{DayName}
 use Rattle.store.specs.declared.piece.Spot.TheVariants.{Place}
+use Rattle.store.specs.Asking.{Doing, IsExact}
 use Rattle.store.specs.Effects.{with_day, with_highest, with_place}
-use Rattle.store.specs.Requests.{Read, Highest, Raise, NameDay, Done, Bytes}
+use Rattle.store.specs.Loops.{Times, at}
+use Rattle.store.specs.Requests.{Read, Highest, Raise, Done, Bytes}
 use Rattle.store.specs.State.{State, last_number, most_in_piece}
-use Rattle.days.specs.declared.done.Done.TheVariants.{Begun, Found, Written, Raised, Named, BrokenOff}
+use Rattle.days.specs.declared.done.Added.{Added as Count}
+use Rattle.days.specs.declared.done.Done.TheVariants.{Begun, Found, Written, Added, Raised, Named, BrokenOff}
 use Rattle.days.specs.declared.done.Done.{Done as StepDone}
-use Rattle.store.specs.Asking.{Doing}
 use Rattle.days.specs.Machines.{Work, new_day, with_number, with_piece}
 use Rattle.days.specs.Within.{AreSteps}
-use Rattle.store.specs.Asking.{IsExact}
-use Rattle.days.specs.Steps.{Begins, Breaks, DayRaises, DaySees, Ends, ForDay, GoesOn, NoDay, Sees, enlist, write}
-use Rattle.days.specs.System.{Makes, Within, World, begins, breaks, finds, lists, names, raises, still, world, writes}
+use Rattle.days.specs.Steps.{Adds, AddsCut, Begins, Breaks, DayAdds, DayRaises, DaySees, Ends, ForDay, GoesOn, NoDay, Sees, SeesPiece, SeesTo, enlist, entry, name, place_path, write}
+use Rattle.days.specs.System.{Makes, Within, World, adds, begins, breaks, finds, forgets, lists, names, raises, still, world, writes}
 use Rattle.store.proofs.Exact.{Enlisted, enlisted, highest, named, raised, read, wrote}
-use Rattle.days.proofs.Moves.{listed_here, more, moves, not_on, on, put_here, put_put, stays, unmoved}
+use Rattle.days.proofs.Cuts.{Fit, fit, fit_one}
+use Rattle.days.proofs.Moves.{after, at_last, at_most, listed_here, moves, not_on, on, put_here, put_put, stays, unmoved}
+use Rattle.days.proofs.Seen.{each_is_done, each_is_stopped, names_more, seen_to, times_run}
 
 module _ {S : Type 0} (does : Doing S) (holds : S → State) (exact : IsExact holds does) where
   -- refused since there is no day for the step
@@ -45,6 +51,7 @@ module _ {S : Type 0} (does : Doing S) (holds : S → State) (exact : IsExact ho
   begins_run w i s t (Ok (Raised k)) new h x = absurd x
   begins_run w i s t (Ok (Named k)) new h x = absurd x
   begins_run w i s t (Ok BrokenOff) new h x = absurd x
+  begins_run w i s t (Ok (Added k)) new h x = absurd x
 
   breaks_run : (w : World) (i : ℕ) (s t : S) (a : Result StepDone Refusal) (new : Option Work) → w.store ≡ holds s → Breaks does i (w.makes i) s a new t → Within 1 w (world (holds t) i new w)
   breaks_run w i s t a new h x =
@@ -74,19 +81,23 @@ module _ {S : Type 0} (does : Doing S) (holds : S → State) (exact : IsExact ho
   day_raises w i s t (Ok (Written k)) new d e o h x = absurd x.2
   day_raises w i s t (Ok (Named k)) new d e o h x = absurd x.2
   day_raises w i s t (Ok BrokenOff) new d e o h x = absurd x.2
+  day_raises w i s t (Ok (Added k)) new d e o h x = absurd x.2
 
   ends : (w : World) (i : ℕ) (s t : S) (a : Result StepDone Refusal) (new : Option Work) (d : Work) → w.makes i ≡ Some d → w.store.machines i ≡ true → w.store ≡ holds s → Ends does i d s a new t → Within 1 w (world (holds t) i new w)
   ends w i s t (Ok (Named k)) new d e o h (f, (n, (m, asked, last))) =
       let day : DayName = record { machine = i; number = k } in
-      let is = named _ _ day d.pieces (exact s m _ _ asked) in
-      moves w w i _ (holds t) None new still (names w i d k o e n (ap (λ (z : State). z.days day) h ∙ is.0)) (ap (with_day day (Some d.pieces)) h ∙ is.1 ∙ ap holds (sym last)) (sym f)
+      let file = day_file day d.files in
+      let is = named _ _ day file (exact s m _ _ asked) in
+      moves w w i _ (holds t) None new still (names w i d k o e n (ap (λ (z : State). z.days day) h ∙ is.0)) (ap (with_day day (Some file)) h ∙ is.1 ∙ ap holds (sym last)) (sym f)
   ends w i s t (Err r) new d e o h (f, inl (n, is, same)) = stays w i (holds t) new (ap holds same ∙ sym h) (f ∙ sym e)
-  ends w i s t (Err r) new d e o h (f, inr (k, n, x)) = stays w i (holds t) new (unmoved does holds exact s t (NameDay (record { machine = i; number = k }) d.pieces) r x ∙ sym h) (f ∙ sym e)
+  ends w i s t (Err r) new d e o h (f, inr (k, n, inl (is, same))) = stays w i (holds t) new (ap holds same ∙ sym h) (f ∙ sym e)
+  ends w i s t (Err r) new d e o h (f, inr (k, n, inr x)) = stays w i (holds t) new (unmoved does holds exact s t (name i k d) r x ∙ sym h) (f ∙ sym e)
   ends w i s t (Ok Begun) new d e o h x = absurd x
   ends w i s t (Ok (Found k)) new d e o h x = absurd x
   ends w i s t (Ok (Written k)) new d e o h x = absurd x
   ends w i s t (Ok (Raised k)) new d e o h x = absurd x
   ends w i s t (Ok BrokenOff) new d e o h x = absurd x
+  ends w i s t (Ok (Added k)) new d e o h x = absurd x
 
   -- After a name is listed for a machine, or was: what holds before its piece is written.
   record Listed (w : World) (i : ℕ) (d : Work) (p : List ℕ) (t : State) : Type 0 where
@@ -122,35 +133,124 @@ module _ {S : Type 0} (does : Doing S) (holds : S → State) (exact : IsExact ho
       subst (λ (g : ℕ → Option Work). Within 2 w (record { store = t; makes = g })) (put_put i (Some d) new w.makes)
       (moves w v i _ t _ new l.run (writes v i d p (record { on_list = l.on_list; makes = put_here i (Some d) w.makes; no_number = n }) fits l.listed) e f)
 
-  day_sees : (p : List ℕ) (w : World) (i : ℕ) (s t : S) (a : Result StepDone Refusal) (new : Option Work) (d : Work) → length p ≤ most_in_piece → w.makes i ≡ Some d → w.store.machines i ≡ true → w.store ≡ holds s → GoesOn (DaySees does i p) d s a new t → Within 2 w (world (holds t) i new w)
-  day_sees p w i s t (Ok (Found k)) new d fits e o h (v, f, (is_name, n, g, (m, asked, last))) =
+  -- a piece is seen to
+  piece_run : (p : List ℕ) (w : World) (i : ℕ) (s t : S) (b : Bool) (d : Work) → length p ≤ most_in_piece → Makes w i d → w.store ≡ holds s → SeesTo does i p s (Ok b) t → Within 2 w (world (holds t) i (Some (with_piece (digest_of p) d)) w)
+  piece_run p w i s t false d fits k h (m, asked, last) =
       let is = read _ _ Place (digest_of p) (Some p) (exact s m _ _ asked) in
-      moves w w i w.store (holds t) _ new still (finds w i d p (makes w i d e o n) fits (ap (λ (z : State). z.place (digest_of p)) h ∙ is.1)) (h ∙ sym is.0 ∙ ap holds (sym last)) (ap Some (sym g) ∙ sym f)
-  day_sees p w i s t (Ok (Written k)) new d fits e o h (v, f, (is_name, n, g, b, other, (m, asked, (m', listed, (m'', written, last))))) =
-      writes_run w i d p (holds m') (holds t) new fits n (enlists w i d p s m m' b (makes w i d e o n) h asked listed)
-      (wrote _ _ (digest_of p) p (exact m' m'' _ _ written) ∙ ap holds (sym last)) (ap Some (sym g) ∙ sym f)
-  day_sees p w i s t (Err r) new d fits e o h (v, f, (g, inl (k, n, is, same))) = stays w i (holds t) new (ap holds same ∙ sym h) (f ∙ ap Some g ∙ sym e)
-  day_sees p w i s t (Err r) new d fits e o h (v, f, (g, inr (n, inl (is, same)))) = stays w i (holds t) new (ap holds same ∙ sym h) (f ∙ ap Some g ∙ sym e)
-  day_sees p w i s t (Err r) new d fits e o h (v, f, (g, inr (n, inr (inl x)))) = stays w i (holds t) new (unmoved does holds exact s t (Read Place (digest_of p)) r x ∙ sym h) (f ∙ ap Some g ∙ sym e)
-  day_sees p w i s t (Err r) new d fits e o h (v, f, (g, inr (n, inr (inr (b, other, inl (m, asked, x)))))) =
-      stays w i (holds t) new (unmoved does holds exact m t (enlist i p) r x ∙ (read _ _ Place (digest_of p) b (exact s m _ _ asked)).0 ∙ sym h) (f ∙ ap Some g ∙ sym e)
-  day_sees p w i s t (Err r) new d fits e o h (v, f, (g, inr (n, inr (inr (b, other, inr (m, asked, (m', listed, x))))))) =
-      subst (λ (z : State × Option Work). Within 2 w (world z.0 i z.1 w)) (λ k. (sym (unmoved does holds exact m' t (write p) r x) k, (ap Some (sym g) ∙ sym f) k))
-      (more (enlists w i d p s m m' b (makes w i d e o n) h asked listed).run)
-  day_sees p w i s t (Ok Begun) new d fits e o h x = absurd x.2
-  day_sees p w i s t (Ok (Raised k)) new d fits e o h x = absurd x.2
-  day_sees p w i s t (Ok (Named k)) new d fits e o h x = absurd x.2
-  day_sees p w i s t (Ok BrokenOff) new d fits e o h x = absurd x.2
+      moves w w i w.store (holds t) _ _ still (finds w i d p k fits (ap (λ (z : State). z.place (digest_of p)) h ∙ is.1)) (h ∙ sym is.0 ∙ ap holds (sym last)) refl
+  piece_run p w i s t true d fits k h (b, other, (m, asked, (m', listed, (m'', written, last)))) =
+      writes_run w i d p (holds m') (holds t) _ fits k.no_number (enlists w i d p s m m' b k h asked listed) (wrote _ _ (digest_of p) p (exact m' m'' _ _ written) ∙ ap holds (sym last)) refl
 
-  sees_run : (p : List ℕ) (w : World) (i : ℕ) (s t : S) (a : Result StepDone Refusal) (new : Option Work) → w.store ≡ holds s → Sees does i p (w.makes i) s a new t → Within 2 w (world (holds t) i new w)
-  sees_run p w i s t a new h (inl (long, is, f, same)) = stays w i (holds t) new (ap holds same ∙ sym h) f
-  sees_run p w i s t a new h (inr (fits, x)) = for_day (GoesOn (DaySees does i p)) w i s t a new h (λ d m e o k y. day_sees p w i m t a new d fits e o k y) x
+  -- where nothing has changed
+  stayed : (w : World) (i : ℕ) (t : State) (d : Work) → Makes w i d → t ≡ w.store → Within 1 w (world t i (Some d) w) × (t.machines i ≡ true)
+  stayed w i t d k e = (stays w i t (Some d) e (sym k.makes), ap (λ (z : State). z.machines i) e ∙ k.on_list)
+
+  -- a piece is not seen to: its name may have been listed
+  no_piece_run : (p : List ℕ) (w : World) (i : ℕ) (s t : S) (r : Refusal) (d : Work) → Makes w i d → w.store ≡ holds s → SeesTo does i p s (Err r) t → Within 1 w (world (holds t) i (Some d) w) × ((holds t).machines i ≡ true)
+  no_piece_run p w i s t r d k h (inl x) = stayed w i (holds t) d k (unmoved does holds exact s t (Read Place (digest_of p)) r x ∙ sym h)
+  no_piece_run p w i s t r d k h (inr (b, other, inl (m, asked, x))) = stayed w i (holds t) d k (unmoved does holds exact m t (enlist i p) r x ∙ (read _ _ Place (digest_of p) b (exact s m _ _ asked)).0 ∙ sym h)
+  no_piece_run p w i s t r d k h (inr (b, other, inr (m, asked, (m', listed, x)))) =
+      let l = enlists w i d p s m m' b k h asked listed in
+      subst (λ (z : State). Within 1 w (world z i (Some d) w) × (z.machines i ≡ true)) (sym (unmoved does holds exact m' t (write p) r x)) (l.run, l.on_list)
+
+  -- what was seen to counts no more: the day is as it was
+  forgets_run : {n : ℕ} (w : World) (i : ℕ) (d d' v : Work) (t : State) → d.seen ≡ [] → v ≡ d → d'.number ≡ None → t.machines i ≡ true → (d'.files ≡ d.files) × (d'.number ≡ d.number) → Within n w (world t i (Some d') w) → Within (suc n) w (world t i (Some v) w)
+  forgets_run w i d d' v t none g n o same r =
+      let u = world t i (Some d') w in
+      at_last w w i t t (Some d') (Some v)
+      (moves w u i _ t _ (Some v) r (forgets u i d' (record { on_list = o; makes = put_here i (Some d') w.makes; no_number = n })) refl
+      (ap Some ((λ j. record { files = same.0 j; seen = sym none j; number = same.1 j }) ∙ sym g)))
+
+  -- the first k pieces of a file are seen to, for a day for whose next file nothing was
+  record Reached (w : World) (i : ℕ) (d : Work) (ps : List (List ℕ)) (k : ℕ) (t : S) : Type 0 where
+    run : Within (2 * k) w (world (holds t) i (Some (record d { seen = map digest_of (take k ps) })) w)
+    on_list : (holds t).machines i ≡ true
+
+  reached : (w : World) (i : ℕ) (d : Work) (ps : List (List ℕ)) (k : ℕ) (s t : S) (u v : ℕ) → Fit ps → Makes w i d → d.seen ≡ [] → w.store ≡ holds s → k ≤ length ps → Times (at [] (SeesPiece does i) ps) k s u t v → Reached w i d ps k t
+  reached w i d ps k s t u v fits makes none h le times =
+      times_run _ (Reached w i d ps) (length ps) s u
+      (record { run = stays w i (holds s) _ (sym h) (ap (λ (ns : List Digest). Some (record d { seen = ns })) (sym none) ∙ sym makes.makes); on_list = ap (λ (z : State). z.machines i) (sym h) ∙ makes.on_list })
+      (λ j m t x y lt before g.
+      let p = slice_index_or ps j [] in
+      let d' : Work = record d { seen = map digest_of (take j ps) } in
+      let v = world (holds m) i (Some d') w in
+      let run : Within 2 v (world (holds t) i (Some (with_piece (digest_of p) d')) v) = piece_run p v i m t g.0 d' (fits j lt) (record { on_list = before.on_list; makes = put_here i (Some d') w.makes; no_number = makes.no_number }) refl g.1 in
+      record {
+        run = subst (λ (ns : List Digest). Within (2 * suc j) w (world (holds t) i (Some (record d { seen = ns })) w)) (sym (names_more ps j lt))
+            (at_most (omega arith) (at_last w w i (holds m) (holds t) (Some d') _ (after before.run run)));
+        on_list = ap (λ f. f i) (seen_to does holds exact i p m t g.0 g.1).only.machines ∙ before.on_list;
+      })
+      k t v le times
+
+  -- a file is added, or it is not
+  day_adds : (path : List ℕ) (ps : List (List ℕ)) (w : World) (i : ℕ) (s t : S) (a : Result Count Refusal) (d v : Work) → Fit ps → w.makes i ≡ Some d → w.store.machines i ≡ true → w.store ≡ holds s → DayAdds does i path ps d s a v t → Within (2 * length ps + 1) w (world (holds t) i (Some v) w)
+  day_adds path ps w i s t (Ok a) d v fits e o h ((are, n, none), all, count, g) =
+      let k = length ps in
+      let x = reached w i d ps k s t 0 a.written fits (makes w i d e o n) none h (omega arith) (each_is_done [] (SeesPiece does i) ps s t 0 a.written all) in
+      let d' : Work = record d { seen = map digest_of (take k ps) } in
+      let u = world (holds t) i (Some d') w in
+      at_most (omega arith) (at_last w w i (holds t) (holds t) (Some d') (Some v)
+      (moves w u i _ (holds t) _ (Some v) x.run (adds u i d' (entry path ps) (record { on_list = x.on_list; makes = put_here i (Some d') w.makes; no_number = n }) (sym (ap (map digest_of) (take_all k ps (omega arith)))) are) refl (ap Some (sym g))))
+  day_adds path ps w i s t (Err r) d v fits e o h (g, inl (is, same)) = stays w i (holds t) (Some v) (ap holds same ∙ sym h) (ap Some g ∙ sym e)
+  day_adds path ps w i s t (Err r) d v fits e o h (g, inr (inl (is, same))) = stays w i (holds t) (Some v) (ap holds same ∙ sym h) (ap Some g ∙ sym e)
+  day_adds path ps w i s t (Err r) d v fits e o h (g, inr (inr (inl (k, has, are, is, same)))) = stays w i (holds t) (Some v) (ap holds same ∙ sym h) (ap Some g ∙ sym e)
+  day_adds path ps w i s t (Err r) d v fits e o h (g, inr (inr (inr ((are, n, none), c, inl stopped)))) =
+      let (k, lt, m, y, times, last) = each_is_stopped [] (SeesPiece does i) ps s t 0 c r stopped in
+      let x = reached w i d ps k s m 0 y fits (makes w i d e o n) none h (omega arith) times in
+      let d' : Work = record d { seen = map digest_of (take k ps) } in
+      let u = world (holds m) i (Some d') w in
+      let z = no_piece_run (slice_index_or ps k []) u i m t r d' (record { on_list = x.on_list; makes = put_here i (Some d') w.makes; no_number = n }) refl last in
+      at_most (omega arith) (forgets_run w i d d' v (holds t) none g n z.1 (refl, refl) (at_last w w i (holds m) (holds t) (Some d') (Some d') (after x.run z.0)))
+  day_adds path ps w i s t (Err r) d v fits e o h (g, inr (inr (inr ((are, n, none), c, inr (all, is))))) =
+      let x = reached w i d ps (length ps) s t 0 c fits (makes w i d e o n) none h (omega arith) (each_is_done [] (SeesPiece does i) ps s t 0 c all) in
+      at_most (omega arith) (forgets_run w i d _ v (holds t) none g n x.on_list (refl, refl) x.run)
+
+  -- see to a piece, as a file of its own
+  day_sees : (p : List ℕ) (w : World) (i : ℕ) (s t : S) (a : Result StepDone Refusal) (new : Option Work) (d : Work) → length p ≤ most_in_piece → w.makes i ≡ Some d → w.store.machines i ≡ true → w.store ≡ holds s → GoesOn (DaySees does i p) d s a new t → Within 3 w (world (holds t) i new w)
+  day_sees p w i s t a new d fits e o h (v, f, x) = rw f (run a x)
+    where
+      adds_one : (c : Result Count Refusal) → DayAdds does i (place_path (length d.files + 1)) (p ∷ []) d s c v t → Within 3 w (world (holds t) i (Some v) w)
+      adds_one c y = day_adds _ (p ∷ []) w i s t c d v (fit_one p fits) e o h y
+
+      run : (a : Result StepDone Refusal) → DaySees does i p d s a v t → Within 3 w (world (holds t) i (Some v) w)
+      run (Ok (Found k)) (is, c, count, y) = adds_one (Ok c) y
+      run (Ok (Written k)) (is, c, count, y) = adds_one (Ok c) y
+      run (Err r) y = adds_one (Err r) y
+      run (Ok Begun) y = absurd y
+      run (Ok (Added k)) y = absurd y
+      run (Ok (Raised k)) y = absurd y
+      run (Ok (Named k)) y = absurd y
+      run (Ok BrokenOff) y = absurd y
+
+  sees_run : (p : List ℕ) (w : World) (i : ℕ) (s t : S) (a : Result StepDone Refusal) (new : Option Work) → w.store ≡ holds s → Sees does i p (w.makes i) s a new t → Within 3 w (world (holds t) i new w)
+  sees_run p w i s t a new h (inl (none, is, f, same)) = stays w i (holds t) new (ap holds same ∙ sym h) f
+  sees_run p w i s t a new h (inr (inl (long, is, f, same))) = stays w i (holds t) new (ap holds same ∙ sym h) f
+  sees_run p w i s t a new h (inr (inr (some, fits, x))) = for_day (GoesOn (DaySees does i p)) w i s t a new h (λ d m e o k y. day_sees p w i m t a new d fits e o k y) x
+
+  -- add a file
+  day_adds_cut : (path file : List ℕ) (w : World) (i : ℕ) (s t : S) (a : Result StepDone Refusal) (new : Option Work) (d : Work) → w.makes i ≡ Some d → w.store.machines i ≡ true → w.store ≡ holds s → GoesOn (AddsCut does i path file) d s a new t → Within (2 * length (pieces file) + 1) w (world (holds t) i new w)
+  day_adds_cut path file w i s t a new d e o h (v, f, x) = rw f (run a x)
+    where
+      run : (a : Result StepDone Refusal) → AddsCut does i path file d s a v t → Within (2 * length (pieces file) + 1) w (world (holds t) i (Some v) w)
+      run (Ok (Added c)) y = day_adds path (pieces file) w i s t (Ok c) d v (fit file) e o h y
+      run (Err r) y = day_adds path (pieces file) w i s t (Err r) d v (fit file) e o h y
+      run (Ok Begun) y = absurd y
+      run (Ok (Found k)) y = absurd y
+      run (Ok (Written k)) y = absurd y
+      run (Ok (Raised k)) y = absurd y
+      run (Ok (Named k)) y = absurd y
+      run (Ok BrokenOff) y = absurd y
+
+  adds_run : (path file : List ℕ) (w : World) (i : ℕ) (s t : S) (a : Result StepDone Refusal) (new : Option Work) → w.store ≡ holds s → Adds does i path file (w.makes i) s a new t → Within (2 * length (pieces file) + 1) w (world (holds t) i new w)
+  adds_run path file w i s t a new h (inl (r, is, why, f, same)) = stays w i (holds t) new (ap holds same ∙ sym h) f
+  adds_run path file w i s t a new h (inr (short, is, x)) = for_day (GoesOn (AddsCut does i path file)) w i s t a new h (λ d m e o k y. day_adds_cut path file w i m t a new d e o k y) x
 
 pub are_steps : {S : Type 0} (does : Doing S) → AreSteps does
 are_steps does =
     record {
       begins = λ holds exact. begins_run does holds exact;
       sees = λ p holds exact. sees_run does holds exact p;
+      adds = λ path file holds exact. adds_run does holds exact path file;
       raises = λ holds exact w i s t a new h x. for_day does holds exact (GoesOn (DayRaises does i)) w i s t a new h (λ d m e o k y. day_raises does holds exact w i m t a new d e o k y) x;
       names = λ holds exact w i s t a new h x. for_day does holds exact (Ends does i) w i s t a new h (λ d m e o k y. ends does holds exact w i m t a new d e o k y) x;
       breaks = λ holds exact. breaks_run does holds exact;

@@ -1,7 +1,11 @@
 pub mod Asking
+pub mod Backs
+pub mod Files
 pub mod Machines
-pub mod Within
 pub mod Promise
+pub mod Sources
 pub mod Steps
 pub mod System
 pub mod Texts
+pub mod Wholes
+pub mod Within

@@ -1,21 +1,31 @@
 -- The steps of a machine: what it asks of a store, in which order, what it answers, and what it makes then.
 -- Each is of machine i, which makes `old` before it and `new` after it, with the answer a, and leads the store from s to t.
 -- Assumes nothing.
-use Rattle.std.specs.Prelude.{◌≡◌, ◌≢◌, ◌⊎◌, ℕ, ◌+◌, ◌<◌, ◌≤◌, List, [], ◌∷◌, length, Some, None, Ok, Err, Option, Result}
+use Rattle.std.specs.Prelude.{◌≡◌, ◌≢◌, ◌⊎◌, ℕ, ◌+◌, ◌/◌, ◌%◌, ◌<◌, ◌≤◌, List, [], ◌∷◌, ◌++◌, length, map, Some, None, Ok, Err, Bool, true, false, cond, Option, Result, slice_index_or}
+use Rattle.std.specs.List.{concat}
+use Rattle.cutting.specs.Results.{NotCut}
+use Rattle.cutting.specs.Rule.{most_in_file, pieces}
 use Rattle.cutting.specs.declared.refusal.Refusal.{Refusal}
-use Rattle.cutting.specs.declared.refusal.Refusal.TheVariants.{HasNoNumber, HasNumber, LastNumber, MakesDay, MakesNone, NoMemory, PieceTooLong}
+use Rattle.cutting.specs.declared.refusal.Refusal.TheVariants.{HasNoNumber, HasNumber, LastNumber, MakesDay, MakesNone, NoMemory, PieceEmpty, PieceTooLong}
 use Rattle.digest.specs.Digests.{digest_of}
 use Rattle.store.specs.declared.piece.Spot.TheVariants.{Place}
 use Rattle.store.specs.Requests as request
 use Rattle.store.specs.Requests.{Request, Answer, Read, Enlist, Write, Highest, Raise, NameDay, Number, Refused}
 use Rattle.store.specs.State.{last_number, most_in_piece}
+use Rattle.store.specs.Loops.{Each, Go}
+use Rattle.dayfile.specs.Adding.{Misfits}
+use Rattle.dayfile.specs.Entries.{Entry}
+use Rattle.dayfile.specs.Form.{day_file}
+use Rattle.dayfile.specs.Limits.{AreFiles, IsPath}
+use Rattle.dayfile.specs.Paths.{IsNoPath}
+use Rattle.days.specs.declared.done.Added.{Added as Count}
 use Rattle.days.specs.declared.done.Done.{Done}
 use Rattle.days.specs.declared.machine.Machine.{Machine}
 use Rattle.days.specs.declared.making.Underway.{Underway}
-use Rattle.days.specs.declared.done.Done.TheVariants.{Begun, Found, Written, Raised, Named, BrokenOff}
+use Rattle.days.specs.declared.done.Done.TheVariants.{Begun, Found, Written, Added, Raised, Named, BrokenOff}
 use Rattle.days.specs.Asking.{Asked, NotOnList, in_place, on_list}
 use Rattle.store.specs.Asking.{Doing}
-use Rattle.days.specs.Machines.{Work, makes, new_day, with_number, with_piece, work_of}
+use Rattle.days.specs.Machines.{Work, makes, new_day, with_file, with_number, work_of}
 
 -- a request that is done; one that is refused, or fails
 abbrev pub done : Request → Request × Answer
@@ -31,9 +41,25 @@ enlist i p = Enlist (record { machine = i; name = digest_of p })
 abbrev pub write : List ℕ → Request
 write p = Write (digest_of p) p
 
--- a machine's day of this number is given its name
+-- a machine's day of this number is given its name: its file is to lie under it
 abbrev pub name : ℕ → ℕ → Work → Request
-name i k w = NameDay (record { machine = i; number = k }) w.pieces
+name i k w = NameDay (record { machine = i; number = k }) (day_file (record { machine = i; number = k }) w.files)
+
+-- a file in a day, by its path and its pieces: it has as many bytes as these together, and their names
+abbrev pub entry : List ℕ → List (List ℕ) → Entry
+entry path ps = record { path = path; length = length (concat ps); pieces = map digest_of ps }
+
+-- the path of a file by its place in a day, in four decimal digits
+abbrev pub place_path : ℕ → List ℕ
+place_path k = (48 + k / 1000 % 10) ∷ (48 + k / 100 % 10) ∷ (48 + k / 10 % 10) ∷ (48 + k % 10) ∷ []
+
+-- none of these pieces has more than so many bytes
+abbrev pub HaveRoom : List (List ℕ) → ℕ → Type 0
+HaveRoom ps most = (k : ℕ) → k < length ps → length (slice_index_or ps k []) ≤ most
+
+-- why a file is not looked at: it is too long, its path is none, or there is no memory for its pieces
+abbrev pub NoFile : List ℕ → List ℕ → Refusal → Type 0
+NoFile path file r = NotCut (length file) r ⊎ IsNoPath path r
 
 -- a step of a day that goes on
 abbrev pub GoesOn : {S : Type 0} → (Work → S → Result Done Refusal → Work → S → Type 0) → Work → S → Result Done Refusal → Option Work → S → Type 0
@@ -71,19 +97,49 @@ module _ {S : Type 0} (does : Doing S) (i : ℕ) where
       (b : Option (List ℕ)) × (b ≢ Some p)
       × (Asked does s (in_place (digest_of p) b ∷ fails (enlist i p) r ∷ []) t ⊎ Asked does s (in_place (digest_of p) b ∷ done (enlist i p) ∷ fails (write p) r ∷ []) t)
 
-  -- why a piece is not seen to for a day: its number is raised; or else there is no memory to note the piece, its place cannot be read, or it is not written
-  abbrev pub Unseen : List ℕ → Work → S → Refusal → S → Type 0
-  Unseen p w s r t =
-      ((k : ℕ) × (w.number ≡ Some k) × (r ≡ HasNumber) × (t ≡ s))
-      ⊎ ((w.number ≡ None) × (((r ≡ NoMemory) × (t ≡ s)) ⊎ (Asked does s (fails (Read Place (digest_of p)) r ∷ []) t ⊎ NotWritten p s r t)))
+  -- a piece is seen to: its very bytes are found in its place, or else it is written there; whether it was written
+  abbrev pub SeesTo : List ℕ → S → Result Bool Refusal → S → Type 0
+  SeesTo p s (Ok false) t = Asked does s (in_place (digest_of p) (Some p) ∷ []) t
+  SeesTo p s (Ok true) t = (b : Option (List ℕ)) × (b ≢ Some p) × Asked does s (in_place (digest_of p) b ∷ done (enlist i p) ∷ done (write p) ∷ []) t
+  SeesTo p s (Err r) t = Asked does s (fails (Read Place (digest_of p)) r ∷ []) t ⊎ NotWritten p s r t
 
-  -- a day sees to a piece: it counts as seen to once its very bytes were found in its place, or else it was written there
+  -- so, and how many were written is counted
+  abbrev pub SeesPiece : List ℕ → Go S ℕ
+  SeesPiece p s u (Ok x) t v = (b : Bool) × SeesTo p s (Ok b) t × (v ≡ cond b (u + 1) u)
+  SeesPiece p s u (Err r) t v = SeesTo p s (Err r) t
+
+  -- so is each piece of a file, in their order
+  abbrev pub SeesAll : List (List ℕ) → Go S ℕ
+  SeesAll ps = Each [] SeesPiece ps
+
+  -- a file may be added: it may follow the others, the number of the day is not raised, and nothing is seen to yet for the next file
+  abbrev pub MayAdd : Entry → Work → Type 0
+  MayAdd e w = AreFiles (w.files ++ e ∷ []) × (w.number ≡ None) × (w.seen ≡ [])
+
+  -- why a file is not added: there is no memory; it may not follow the others; the number of the day is raised; or a piece is not seen to, or there is no memory to keep it then
+  abbrev pub NotAdded : List ℕ → List (List ℕ) → Work → S → Refusal → S → Type 0
+  NotAdded path ps w s r t =
+      ((r ≡ NoMemory) × (t ≡ s))
+      ⊎ ((Misfits w.files (entry path ps) r × (t ≡ s))
+      ⊎ (((k : ℕ) × (w.number ≡ Some k) × AreFiles (w.files ++ entry path ps ∷ []) × (r ≡ HasNumber) × (t ≡ s))
+      ⊎ (MayAdd (entry path ps) w × (n : ℕ) × (SeesAll ps s 0 (Err r) t n ⊎ (SeesAll ps s 0 (Ok tt) t n × (r ≡ NoMemory))))))
+
+  -- a file of these pieces is added to a day, once each of them is seen to
+  abbrev pub DayAdds : List ℕ → List (List ℕ) → Work → S → Result Count Refusal → Work → S → Type 0
+  DayAdds path ps w s (Ok a) v t = MayAdd (entry path ps) w × SeesAll ps s 0 (Ok tt) t a.written × (a.pieces ≡ length ps) × (v ≡ with_file (entry path ps) w)
+  DayAdds path ps w s (Err r) v t = (v ≡ w) × NotAdded path ps w s r t
+
+  -- so is a whole file, cut into its pieces
+  abbrev pub AddsCut : List ℕ → List ℕ → Work → S → Result Done Refusal → Work → S → Type 0
+  AddsCut path file w s (Ok (Added a)) v t = DayAdds path (pieces file) w s (Ok a) v t
+  AddsCut path file w s (Err r) v t = DayAdds path (pieces file) w s (Err r) v t
+  AddsCut path file w s (Ok other) v t = ⊥
+
+  -- and a file that is one piece, under its place in the day
   abbrev pub DaySees : List ℕ → Work → S → Result Done Refusal → Work → S → Type 0
-  DaySees p w s (Ok (Found n)) v t = (n ≡ digest_of p) × (w.number ≡ None) × (v ≡ with_piece (digest_of p) w) × Asked does s (in_place (digest_of p) (Some p) ∷ []) t
-  DaySees p w s (Ok (Written n)) v t =
-      (n ≡ digest_of p) × (w.number ≡ None) × (v ≡ with_piece (digest_of p) w)
-      × (b : Option (List ℕ)) × (b ≢ Some p) × Asked does s (in_place (digest_of p) b ∷ done (enlist i p) ∷ done (write p) ∷ []) t
-  DaySees p w s (Err r) v t = (v ≡ w) × Unseen p w s r t
+  DaySees p w s (Ok (Found n)) v t = (n ≡ digest_of p) × (a : Count) × (a.written ≡ 0) × DayAdds (place_path (length w.files + 1)) (p ∷ []) w s (Ok a) v t
+  DaySees p w s (Ok (Written n)) v t = (n ≡ digest_of p) × (a : Count) × (a.written ≢ 0) × DayAdds (place_path (length w.files + 1)) (p ∷ []) w s (Ok a) v t
+  DaySees p w s (Err r) v t = DayAdds (place_path (length w.files + 1)) (p ∷ []) w s (Err r) v t
   DaySees p w s (Ok other) v t = ⊥
 
   -- why the number of a day is not raised: it is; or else the highest is not told, it is the last one, or the next one is not set
@@ -103,11 +159,13 @@ module _ {S : Type 0} (does : Doing S) (i : ℕ) where
   DayRaises w s (Err r) v t = (v ≡ w) × NotRaised w s r t
   DayRaises w s (Ok other) v t = ⊥
 
-  -- why a day is not named: its number is not raised, or the store does not do it
+  -- why a day is not named: its number is not raised; or there is no memory for its file, or the store does not do it
   abbrev pub NotNamed : Work → S → Refusal → S → Type 0
-  NotNamed w s r t = ((w.number ≡ None) × (r ≡ HasNoNumber) × (t ≡ s)) ⊎ ((k : ℕ) × (w.number ≡ Some k) × Asked does s (fails (name i k w) r ∷ []) t)
+  NotNamed w s r t =
+      ((w.number ≡ None) × (r ≡ HasNoNumber) × (t ≡ s))
+      ⊎ ((k : ℕ) × (w.number ≡ Some k) × (((r ≡ NoMemory) × (t ≡ s)) ⊎ Asked does s (fails (name i k w) r ∷ []) t))
 
-  -- the day has its name, with the pieces that were seen to
+  -- the day has its name, with the files that were added
   abbrev pub DayNamed : Work → S → Result ℕ Refusal → S → Type 0
   DayNamed w s (Ok k) t = (w.number ≡ Some k) × Asked does s (done (name i k w) ∷ []) t
   DayNamed w s (Err r) t = NotNamed w s r t
@@ -118,11 +176,17 @@ module _ {S : Type 0} (does : Doing S) (i : ℕ) where
   Ends w s (Err r) new t = (new ≡ Some w) × DayNamed w s (Err r) t
   Ends w s (Ok other) new t = ⊥
 
-  -- see to a piece
+  -- see to a piece, as a file of its own
   abbrev pub Sees : List ℕ → Option Work → S → Result Done Refusal → Option Work → S → Type 0
   Sees p old s a new t =
-      ((most_in_piece < length p) × (a ≡ Err PieceTooLong) × (new ≡ old) × (t ≡ s))
-      ⊎ ((length p ≤ most_in_piece) × ForDay (GoesOn (DaySees p)) old s a new t)
+      ((p ≡ []) × (a ≡ Err PieceEmpty) × (new ≡ old) × (t ≡ s))
+      ⊎ (((most_in_piece < length p) × (a ≡ Err PieceTooLong) × (new ≡ old) × (t ≡ s))
+      ⊎ ((1 ≤ length p) × (length p ≤ most_in_piece) × ForDay (GoesOn (DaySees p)) old s a new t))
+
+  -- add a file
+  abbrev pub Adds : List ℕ → List ℕ → Option Work → S → Result Done Refusal → Option Work → S → Type 0
+  Adds path file old s a new t =
+      ((r : Refusal) × (a ≡ Err r) × NoFile path file r × (new ≡ old) × (t ≡ s)) ⊎ ((length file ≤ most_in_file) × IsPath path × ForDay (GoesOn (AddsCut path file)) old s a new t)
 
   -- raise
   abbrev pub Raises : Option Work → S → Result Done Refusal → Option Work → S → Type 0

@@ -1,13 +1,15 @@
 // A machine, and its steps. Each takes the machine, and hands it back with the answer.
-ghost use Rattle.std.specs.Prelude.{◌≡◌, Some, None};
+ghost use Rattle.std.specs.Prelude.{◌≡◌, Some, None, Ok, MatchResult};
 ghost use Rattle.std.specs.Option.{option_map};
 ghost use Rattle.days.specs.Machines.{makes, work_of};
-ghost use Rattle.days.specs.Steps.{Begins, Breaks, IntoDay, Names, Raises, Sees};
+ghost use Rattle.cutting.specs.Results.{Cut};
+ghost use Rattle.days.specs.Steps.{Adds, Begins, Breaks, IntoDay, Names, NoFile, Raises, Sees};
 
 use crate::asking::check_machine;
 use crate::done::Done;
 use crate::making::{Making, Underway};
-use cutting::Refusal;
+use cutting::{Refusal, cut};
+use dayfile::{Day, Path};
 use std::alloc::Global;
 use store::{Store, check_piece};
 
@@ -19,6 +21,14 @@ pub struct Machine {
 
 // What a step has done, or why it is refused.
 pub type Answer = Result<Done, Refusal>;
+
+// The path and the pieces of a file that is to be added.
+fn prepared<'a>(heap: Global, path: &[u8], file: &'a [u8]) -> Result<(Path, Vec<&'a [u8]>), Refusal>
+    ensures { MatchResult result (λ f. (f.0.bytes.items ≡ path.now) × Cut file.now (Ok f.1)) (NoFile path.now file.now) }
+{
+    let pieces = cut(heap, file)?;
+    Ok((Path::new(heap, path)?, pieces))
+}
 
 impl Machine {
     // A machine that comes up: it makes no day.
@@ -74,7 +84,7 @@ impl Machine {
             return (Machine::with(number, day), Err(Refusal::MakesDay));
         }
         let day = Underway {
-            pieces: Vec::new(heap),
+            day: Day::new(heap),
             number: None,
         };
         (Machine::with(number, day), Ok(Done::Begun))
@@ -95,17 +105,44 @@ impl Machine {
         }
     }
 
-    // Sees to a piece for the day that it makes.
-    pub fn see<S: Store>(self, store: &mut S, piece: &[u8]) -> (Machine, Answer)
+    // Sees to a piece for the day that it makes, as a file of its own.
+    pub fn see<S: Store>(self, heap: Global, store: &mut S, piece: &[u8]) -> (Machine, Answer)
         ensures step { Sees S.does self.number piece.now (makes self) store.old result.1 (makes result.0) store.new }
         ensures number { result.0.number ≡ self.number }
     {
+        if piece.is_empty() {
+            return (self, Err(Refusal::PieceEmpty));
+        }
         if let Err(refusal) = check_piece(piece.len() as u64) {
             return (self, Err(refusal));
         }
         match self.into_day(store) {
             Ok((number, mut day)) => {
-                let answer = day.see(number, store, piece);
+                let answer = day.see(heap, number, store, piece);
+                (Machine::with(number, day), answer)
+            }
+            Err((machine, refusal)) => (machine, Err(refusal)),
+        }
+    }
+
+    // Adds a whole file to the day that it makes.
+    pub fn add<S: Store>(
+        self,
+        heap: Global,
+        store: &mut S,
+        path: &[u8],
+        file: &[u8],
+    ) -> (Machine, Answer)
+        ensures step { Adds S.does self.number path.now file.now (makes self) store.old result.1 (makes result.0) store.new }
+        ensures number { result.0.number ≡ self.number }
+    {
+        let (path, pieces) = match prepared(heap, path, file) {
+            Ok(found) => found,
+            Err(refusal) => return (self, Err(refusal)),
+        };
+        match self.into_day(store) {
+            Ok((number, mut day)) => {
+                let answer = day.add_file(heap, number, store, path, file, &pieces);
                 (Machine::with(number, day), answer)
             }
             Err((machine, refusal)) => (machine, Err(refusal)),
@@ -127,12 +164,12 @@ impl Machine {
     }
 
     // Gives the day that it makes its name, and makes none.
-    pub fn name<S: Store>(self, store: &mut S) -> (Machine, Answer)
+    pub fn name<S: Store>(self, heap: Global, store: &mut S) -> (Machine, Answer)
         ensures step { Names S.does self.number (makes self) store.old result.1 (makes result.0) store.new }
         ensures number { result.0.number ≡ self.number }
     {
         match self.into_day(store) {
-            Ok((number, day)) => match day.name(number, store) {
+            Ok((number, day)) => match day.name(heap, number, store) {
                 Ok(named) => (Machine::new(number), Ok(Done::Named(named))),
                 Err(refusal) => (Machine::with(number, day), Err(refusal)),
             },
