@@ -123,3 +123,11 @@ below_less P k (j, l, x) = go (grind arith)
 
 pub adds_more : (P : ℕ → Digest → Type 0) (k : ℕ) (u w v : List Digest) → Adds (λ q. Below k (λ j. P j q)) u w → Adds (P k) w v → Adds (λ q. Below (suc k) (λ j. P j q)) u v
 adds_more P k u w v a b = adds_like _ _ u v (λ q. below_more (λ j. P j q) k) (λ q. below_less (λ j. P j q) k) (adds_both _ _ u w v a b)
+
+-- what is so of each below k, and of k, is so of each below the next
+pub all_more : (P : ℕ → Type 0) (k : ℕ) → ((j : ℕ) → j < k → P j) → P k → (j : ℕ) → j < suc k → P j
+all_more P k f p j l = last (grind arith)
+  where
+    last : (j < k) ⊎ (j ≡ k) → P j
+    last (inl i) = f j i
+    last (inr e) = subst P (sym e) p

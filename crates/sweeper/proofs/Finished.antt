@@ -12,9 +12,9 @@ use Rattle.sweeper.specs.Pieces.{HasFinished}
 use Rattle.sweeper.specs.Promise.{AllHaveFinished}
 use Rattle.sweeper.specs.Sweepers.{noted_of}
 use Rattle.sweeper.proofs.Absurd.{clash}
-use Rattle.sweeper.proofs.Adding.{below_less, below_more}
+use Rattle.sweeper.proofs.Adding.{all_more, below_less, below_more}
 use Rattle.sweeper.proofs.Reading.{Below, Reads, loop_alike}
-use Rattle.sweeper.proofs.Told.{IsNoMemory, not_told, told_highest, told_machine, told_pieces}
+use Rattle.sweeper.proofs.Told.{IsNoMemory, not_told, told_day, told_highest, told_machine}
 
 -- after it the test tells whether it told so before or P is so; or whether both are
 abbrev OrElse : Type 0 → Bool → Bool → Type 0
@@ -52,16 +52,12 @@ or_more P k u w v a b = (λ e. to (b.0 e), λ x. back x)
 
 and_more : (P : ℕ → Type 0) (k : ℕ) (u w v : Bool) → AndAlso ((i : ℕ) → i < k → P i) u w → AndAlso (P k) w v → AndAlso ((i : ℕ) → i < suc k → P i) u v
 and_more P k u w v a b =
-    (λ e. let c = b.0 e in let d = a.0 c.0 in (d.0, λ i l. last i d.1 c.1 (grind arith)), λ x. b.1 (a.1 (x.0, λ i l. x.1 i (omega arith)), x.1 k (omega arith)))
-  where
-    last : (i : ℕ) → ((j : ℕ) → j < k → P j) → P k → (i < k) ⊎ (i ≡ k) → P i
-    last i f p (inl l) = f i l
-    last i f p (inr e) = subst P (sym e) p
+    (λ e. let c = b.0 e in let d = a.0 c.0 in (d.0, all_more P k d.1 c.1), λ x. b.1 (a.1 (x.0, λ i l. x.1 i (omega arith)), x.1 k (omega arith)))
 
 module _ {S : Type 0} (does : Doing S) (holds : S → State) (exact : IsExact holds does) (z : State) where
   -- whether there is such a day
   has_day : (d : DayName) (s t : S) (b : Bool) → holds s ≡ z → HasDay does d s (Ok b) t → (holds t ≡ z) × (b ≡ is_some (z.days d))
-  has_day d s t b h (x, asked, e) = let k = told_pieces does holds exact z s t h d x asked in (k.0, e ∙ ap is_some (sym k.1))
+  has_day d s t b h (x, asked, e) = let k = told_day does holds exact z s t h d x asked in (k.0, e ∙ ap is_some (sym k.1))
 
   -- a day of this machine above the number
   abbrev DayAbove : ℕ → ℕ → ℕ → Type 0

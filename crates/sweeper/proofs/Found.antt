@@ -12,7 +12,8 @@ use Rattle.store.specs.Effects.{with_sweep}
 use Rattle.store.specs.State.{State, most_machines}
 use Rattle.store.proofs.Exact.{keep}
 use Rattle.sweeper.specs.declared.turns.Turns.{Turns}
-use Rattle.sweeper.specs.Promise.{AllHaveFinished, IsWhole, MayDecide}
+use Rattle.sweeper.specs.Pieces.{IsWhole}
+use Rattle.sweeper.specs.Promise.{AllHaveFinished, MayDecide}
 use Rattle.sweeper.specs.Steps as steps
 use Rattle.sweeper.specs.Steps.{AsksFinished, FindsTurns, FindsUnused, NotesNumbers, ReadsDays}
 use Rattle.sweeper.specs.Sweepers.{Sweeping, all_aside, anew, decides_now, is_resting, is_waiting, noted_of, puts, rests, waits}

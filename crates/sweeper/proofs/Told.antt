@@ -8,9 +8,9 @@ use Rattle.store.specs.declared.day.DayName.{DayName}
 use Rattle.store.specs.declared.piece.Spot.{Spot}
 use Rattle.store.specs.Asking.{Doing, IsExact}
 use Rattle.store.specs.Effects.{Does, effect, lies, put_aside, put_back}
-use Rattle.store.specs.Requests.{Request, HasMachine, Read, Enlist, Highest, NameDay, LetGo, PutAside, PutBack, NamesOf, OwnNames, EnlistOwn, PiecesOf, Answer, Told, Bytes, Number, Pieces, Refused}
+use Rattle.store.specs.Requests.{Request, HasMachine, Read, Enlist, Highest, NameDay, LetGo, PutAside, PutBack, NamesOf, OwnNames, EnlistOwn, ReadDay, Answer, Told, Bytes, Number, Refused}
 use Rattle.store.specs.State.{State}
-use Rattle.store.proofs.Exact.{highest, pieces_of, read, refused, told}
+use Rattle.store.proofs.Exact.{highest, read, read_day, refused, told}
 use Rattle.sweeper.proofs.Absurd.{clash}
 
 -- it is refused for want of memory
@@ -71,8 +71,8 @@ module _ {S : Type 0} (does : Doing S) (holds : S → State) (exact : IsExact ho
     pub told_bytes : (spot : Spot) (n : Digest) (b : Option (List ℕ)) → does s (Read spot n) (Bytes b) t → (holds t ≡ z) × (lies spot z n ≡ b)
     told_bytes spot n b x = let k = read _ _ spot n b (exact s t _ _ x) in (k.0 ∙ h, ap (λ w. lies spot w n) (sym h) ∙ k.1)
 
-    pub told_pieces : (d : DayName) (o : Option (List Digest)) → does s (PiecesOf d) (Pieces o) t → (holds t ≡ z) × (z.days d ≡ o)
-    told_pieces d o x = let k = pieces_of _ _ d o (exact s t _ _ x) in (k.0 ∙ h, ap (λ (w : State). w.days d) (sym h) ∙ k.1)
+    pub told_day : (d : DayName) (b : Option (List ℕ)) → does s (ReadDay d) (Bytes b) t → (holds t ≡ z) × (z.days d ≡ b)
+    told_day d b x = let k = read_day _ _ d b (exact s t _ _ x) in (k.0 ∙ h, ap (λ (w : State). w.days d) (sym h) ∙ k.1)
 
     pub told_highest : (i n : ℕ) → does s (Highest i) (Number n) t → (holds t ≡ z) × (z.highest i ≡ n)
     told_highest i n x = let k = highest _ _ i n (exact s t _ _ x) in (k.0 ∙ h, ap (λ (w : State). w.highest i) (sym h) ∙ k.1)

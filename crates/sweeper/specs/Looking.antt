@@ -12,8 +12,11 @@ use Rattle.store.specs.declared.piece.Spot.TheVariants.{Place, Aside}
 use Rattle.store.specs.declared.sweep.Noted.{Noted}
 use Rattle.store.specs.Asking.{Doing}
 use Rattle.store.specs.Memories.{name_cmp}
-use Rattle.store.specs.Requests.{Request, HasMachine, Read, Highest, NamesOf, OwnNames, PiecesOf, Told, Bytes, Number, Names, Pieces, Refused}
+use Rattle.store.specs.Requests.{Request, HasMachine, Read, Highest, NamesOf, OwnNames, ReadDay, Told, Bytes, Number, Names, Refused}
 use Rattle.store.specs.State.{is_in, most_machines}
+use Rattle.dayfile.specs.Entries.{Entry, names_of}
+use Rattle.dayfile.specs.Reads.{NotRead}
+use Rattle.dayfile.specs.Stored.{IsDayOf}
 use Rattle.sweeper.specs.Loops.{Each, Go, Loop}
 use Rattle.sweeper.specs.Pieces.{IsRight}
 use Rattle.sweeper.specs.Sweepers.{noted_of}
@@ -40,12 +43,15 @@ module _ {S : Type 0} (does : Doing S) where
   AddsPiece n s u (Ok x) t v = ((is_in n u ≡ true) × (t ≡ s) × (v ≡ u)) ⊎ ((is_in n u ≡ false) × Checks n s (Ok tt) t × (v ≡ insert n u))
   AddsPiece n s u (Err r) t v = (is_in n u ≡ false) × (Checks n s (Err r) t ⊎ (Checks n s (Ok tt) t × (r ≡ NoMemory)))
 
-  -- so is every piece of a day, if there is such a day; of day number k + 1 of a machine; of all, from 1 to its highest
+  -- so is every piece of a day, if there is such a day and its file is of its form; of day number k + 1 of a machine; of all, from 1 to its highest
   abbrev pub AddsDay : DayName → Go S (List Digest)
   AddsDay d s u (Ok x) t v =
-      (does s (PiecesOf d) (Pieces None) t × (v ≡ u)) ⊎ ((ns : List Digest) × (m : S) × does s (PiecesOf d) (Pieces (Some ns)) m × Each AddsPiece ns m u (Ok tt) t v)
+      (does s (ReadDay d) (Bytes None) t × (v ≡ u))
+      ⊎ ((b : List ℕ) × (es : List Entry) × (m : S) × does s (ReadDay d) (Bytes (Some b)) m × IsDayOf d es b × Each AddsPiece (names_of es) m u (Ok tt) t v)
   AddsDay d s u (Err r) t v =
-      does s (PiecesOf d) (Refused r) t ⊎ ((ns : List Digest) × (m : S) × does s (PiecesOf d) (Pieces (Some ns)) m × Each AddsPiece ns m u (Err r) t v)
+      does s (ReadDay d) (Refused r) t
+      ⊎ (((b : List ℕ) × does s (ReadDay d) (Bytes (Some b)) t × NotRead d b r)
+      ⊎ ((b : List ℕ) × (es : List Entry) × (m : S) × does s (ReadDay d) (Bytes (Some b)) m × IsDayOf d es b × Each AddsPiece (names_of es) m u (Err r) t v))
 
   abbrev pub AddsDayOf : ℕ → ℕ → Go S (List Digest)
   AddsDayOf i k = AddsDay (record { machine = i; number = k + 1 })
@@ -85,8 +91,8 @@ module _ {S : Type 0} (does : Doing S) where
 
   -- whether there is such a day
   abbrev pub HasDay : DayName → S → Result Bool Refusal → S → Type 0
-  HasDay d s (Ok b) t = (x : Option (List Digest)) × does s (PiecesOf d) (Pieces x) t × (b ≡ is_some x)
-  HasDay d s (Err r) t = does s (PiecesOf d) (Refused r) t
+  HasDay d s (Ok b) t = (x : Option (List ℕ)) × does s (ReadDay d) (Bytes x) t × (b ≡ is_some x)
+  HasDay d s (Err r) t = does s (ReadDay d) (Refused r) t
 
   -- or day number noted + k + 1 of a machine, if none was found
   abbrev pub OrDay : ℕ → ℕ → ℕ → Go S Bool

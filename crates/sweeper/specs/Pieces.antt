@@ -5,6 +5,8 @@ use Rattle.digest.specs.declared.value.Digest.{Digest}
 use Rattle.digest.specs.Digests.{digest_of}
 use Rattle.store.specs.declared.day.DayName.{DayName}
 use Rattle.store.specs.State.{State, is_in, most_machines}
+use Rattle.dayfile.specs.Entries.{Entry, names_of}
+use Rattle.dayfile.specs.Stored.{HasFiles, IsDayOf}
 
 -- what lies under a name is of that name
 abbrev pub IsRight : Digest → Option (List ℕ) → Type 0
@@ -28,10 +30,15 @@ pub record IsFound (s : State) (d : DayName) : Type 0 where
 -- such a day has this piece
 pub record FoundHas (s : State) (n : Digest) : Type 0 where
   pub day : DayName
-  pub pieces : List Digest
+  pub files : List Entry
   pub found : IsFound s day
-  pub is_there : s.days day ≡ Some pieces
-  pub has : is_in n pieces ≡ true
+  pub is_there : HasFiles s day files
+  pub has : is_in n (names_of files) ≡ true
+
+-- what lies under the name of each such day is of its form, and all that these days have is there
+pub record IsWhole (s : State) : Type 0 where
+  pub forms : (d : DayName) (b : List ℕ) → IsFound s d → s.days d ≡ Some b → (es : List Entry) × IsDayOf d es b
+  pub pieces : (n : Digest) → FoundHas s n → IsThere s n
 
 -- a machine has a day in the store above this number
 abbrev pub HasFinished : State → ℕ → ℕ → Type 0

@@ -12,7 +12,7 @@ use Rattle.store.specs.Effects.{with_sweep}
 use Rattle.store.specs.State.{State, most_machines, most_names}
 use Rattle.sweeper.specs.declared.done.Done.{Done}
 use Rattle.sweeper.specs.declared.done.Done.TheVariants as done
-use Rattle.sweeper.specs.Pieces.{FoundHas, HasFinished, IsThere}
+use Rattle.sweeper.specs.Pieces.{HasFinished, IsWhole}
 use Rattle.sweeper.specs.Steps.{Decides, Looks, Nexts, Notes, PutsAside}
 use Rattle.sweeper.specs.Sweepers.{Sweeping, anew, decides_now, ends, is_ending, is_over, is_resting, noted_of, puts, rests, waits}
 use Rattle.sweeper.specs.System.{Decided, Looked}
@@ -24,10 +24,6 @@ AllHaveFinished s h = (i : ℕ) → i < most_machines → s.machines i ≡ true 
 -- it may decide: it waits, and they have, or it is to decide anew
 abbrev pub MayDecide : State → Sweeping → Type 0
 MayDecide s old = ((h : Noted) × (old ≡ waits h) × AllHaveFinished s h) ⊎ (old ≡ anew)
-
--- all that days have is there
-abbrev pub IsWhole : State → Type 0
-IsWhole s = (n : Digest) → FoundHas s n → IsThere s n
 
 -- days, numbers and the list of machines stay, and so does what lies under any other name; of lists, and of what is kept of the sweeper, nothing is said here
 pub record OnlyMoves (n : Digest) (s t : State) : Type 0 where

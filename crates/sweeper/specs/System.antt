@@ -6,7 +6,7 @@ use Rattle.store.specs.declared.sweep.Noted.{Noted}
 use Rattle.store.specs.declared.sweep.Sweep.TheVariants as kept
 use Rattle.store.specs.Effects.{put_aside, put_back, with_aside, with_own, with_sweep}
 use Rattle.store.specs.State.{State, is_in, most_machines, most_names}
-use Rattle.sweeper.specs.Pieces.{FoundHas, HasFinished, IsListed, IsRight, IsThere}
+use Rattle.sweeper.specs.Pieces.{FoundHas, HasFinished, IsListed, IsRight, IsWhole}
 use Rattle.sweeper.specs.Sweepers.{Sweeping, anew, ends, noted_of, puts, rests, up, waits}
 
 -- the store, and what the sweeper does
@@ -14,15 +14,15 @@ pub record World : Type 0 where
   pub store : State
   pub sweeper : Sweeping
 
--- what a look finds that is to be put aside: all that is listed and in its place and that no day has; there is no look if a day has a piece that is not there
+-- what a look finds that is to be put aside: all that is listed and in its place and that no day has; there is no look if a day is not whole
 pub record Looked (s : State) (left : List Digest) : Type 0 where
-  pub whole : (n : Digest) → FoundHas s n → IsThere s n
+  pub whole : IsWhole s
   pub spares : (n : Digest) → is_in n left ≡ true → IsListed s n × IsSome (s.place n) × (FoundHas s n → ⊥)
   pub all : (n : Digest) → IsListed s n → IsSome (s.place n) → (FoundHas s n → ⊥) → is_in n left ≡ true
 
 -- what is decided: of all that is aside, what a day has, old or new, is to go back, if its bytes are right, and the rest is to be thrown away
 pub record Decided (s : State) (back away : List Digest) : Type 0 where
-  pub whole : (n : Digest) → FoundHas s n → IsThere s n
+  pub whole : IsWhole s
   pub goes_back : (n : Digest) → is_in n back ≡ true → (s.own n ≡ true) × FoundHas s n × IsRight n (s.aside n)
   pub goes_away : (n : Digest) → is_in n away ≡ true → (s.own n ≡ true) × IsSome (s.aside n) × (FoundHas s n → IsRight n (s.aside n) → ⊥)
   pub all : (n : Digest) → s.own n ≡ true → IsSome (s.aside n) → (is_in n back ≡ true) ⊎ (is_in n away ≡ true)

@@ -16,7 +16,7 @@ use store::{DayName, MACHINES, Noted, Spot, Store};
 fn has_day<S: Store>(store: &mut S, day: DayName) -> Result<bool, Refusal>
     ensures { HasDay S.does day store.old result store.new }
 {
-    Ok(store.pieces_of(day)?.is_some())
+    Ok(store.read_day(day)?.is_some())
 }
 
 // Is one found already, or is this one there, so many above the noted number?

@@ -6,6 +6,7 @@ ghost use Rattle.store.specs.Requests as request;
 ghost use Rattle.sweeper.specs.Looking.{AddsDay, AddsDays, AddsList, AddsLists, AddsName, AddsPiece, Checks, GathersUnused, GathersUsed, ReadsRight};
 
 use cutting::Refusal;
+use dayfile::read_names;
 use digest::{Digest, sha256};
 use std::alloc::Global;
 use std::collections::BTreeSet;
@@ -61,21 +62,25 @@ fn add_pieces<S: Store>(
     Ok(())
 }
 
+// So for a day, if there is one: its file is to be of its form.
 fn add_day<S: Store>(
+    heap: Global,
     store: &mut S,
     day: DayName,
     used: &mut BTreeSet<Digest>,
 ) -> Result<(), Refusal>
     ensures { AddsDay S.does day store.old used.old.keys result store.new used.new.keys }
 {
-    match store.pieces_of(day)? {
-        Some(pieces) => add_pieces(store, &pieces, used),
-        None => Ok(()),
-    }
+    let Some(file) = store.read_day(day)? else {
+        return Ok(());
+    };
+    let names = read_names(heap, day, &file)?;
+    add_pieces(store, &names, used)
 }
 
 #[tactic(auto, using(crate::proofs::Loops::loop_done, crate::proofs::Loops::loop_stops, crate::proofs::Loops::times_more, crate::proofs::Loops::times_none))]
 fn add_days<S: Store>(
+    heap: Global,
     store: &mut S,
     machine: u8,
     used: &mut BTreeSet<Digest>,
@@ -87,18 +92,22 @@ fn add_days<S: Store>(
             machine,
             number: number + 1,
         };
-        add_day(store, day, used)?;
+        add_day(heap, store, day, used)?;
     }
     Ok(())
 }
 
 // The names of all pieces that days have, each checked.
 #[tactic(auto, using(crate::proofs::Loops::loop_done, crate::proofs::Loops::loop_stops, crate::proofs::Loops::times_more, crate::proofs::Loops::times_none))]
-fn add_all_days<S: Store>(store: &mut S, used: &mut BTreeSet<Digest>) -> Result<(), Refusal>
+fn add_all_days<S: Store>(
+    heap: Global,
+    store: &mut S,
+    used: &mut BTreeSet<Digest>,
+) -> Result<(), Refusal>
     ensures { GathersUsed S.does store.old used.old.keys result store.new used.new.keys }
 {
     for machine in 0..MACHINES {
-        add_days(store, machine, used)?;
+        add_days(heap, store, machine, used)?;
     }
     Ok(())
 }
@@ -108,7 +117,7 @@ pub(crate) fn used_names<S: Store>(heap: Global, store: &mut S) -> Result<BTreeS
     ensures err { IfErr result (λ r. (v : List Digest) × GathersUsed S.does store.old [] (Err r) store.new v) }
 {
     let mut used = BTreeSet::new(heap);
-    add_all_days(store, &mut used)?;
+    add_all_days(heap, store, &mut used)?;
     Ok(used)
 }
 

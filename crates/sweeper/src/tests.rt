@@ -1,6 +1,7 @@
-// Each step on the store in memory, also where no script leads: damaged pieces, days whose pieces are missing.
+// Each step on the store in memory, also where no script leads: damaged pieces, days whose pieces are missing, and days that are not of their form.
 use crate::{Done, Sweeper};
 use cutting::Refusal;
+use dayfile::{Day, FileEntry, Path};
 use digest::{Digest, sha256};
 use std::alloc::Global;
 use std::test::Fail;
@@ -18,13 +19,27 @@ fn new_store(heap: Global) -> Result<Memory, Fail> {
             return Err(Fail::new("a piece is not written"));
         }
     }
-    make_day(&mut store, 1, &[sha256(b"x")])?;
+    make_day(heap, &mut store, 1, &[sha256(b"x")])?;
     Ok(store)
 }
 
-fn make_day(store: &mut Memory, number: u32, pieces: &[Digest]) -> Result<(), Fail> {
+// The bytes of a day of one file, which has these pieces.
+fn day_file(heap: Global, name: DayName, pieces: &[Digest]) -> Result<Vec<u8>, Refusal> {
+    let mut day = Day::new(heap);
+    day.push(FileEntry {
+        path: Path::new(heap, b"f")?,
+        length: 1,
+        pieces: Vec::from_slice(heap, pieces)?,
+    })?;
+    dayfile::write(heap, name, &day)
+}
+
+fn make_day(heap: Global, store: &mut Memory, number: u32, pieces: &[Digest]) -> Result<(), Fail> {
     let day = DayName { machine: 7, number };
-    if store.raise(7, number).is_err() || store.name_day(day, pieces).is_err() {
+    let Ok(file) = day_file(heap, day, pieces) else {
+        return Err(Fail::new("there is no day file"));
+    };
+    if store.raise(7, number).is_err() || store.name_day(day, &file).is_err() {
         return Err(Fail::new("a day is not made"));
     }
     Ok(())
@@ -57,7 +72,7 @@ fn what_no_day_has_goes(rt: HostRuntime) -> Result<(), Fail> {
     assert!(rt; noted == Ok(Done::Noted), "noted");
     let (sweeper, early) = sweeper.decide(rt.alloc(), &mut store);
     assert!(rt; early == Err(Refusal::Unfinished), "no day since");
-    make_day(&mut store, 2, &[])?;
+    make_day(rt.alloc(), &mut store, 2, &[])?;
     let (sweeper, decided) = sweeper.decide(rt.alloc(), &mut store);
     assert!(rt; decided == Ok(Done::Decided(0, 1)), "decided");
     let (sweeper, thrown) = sweeper.next(&mut store);
@@ -88,6 +103,52 @@ fn a_missing_piece_is_refused(rt: HostRuntime) -> Result<(), Fail> {
 }
 
 #[test]
+fn a_day_that_is_not_of_its_form_is_refused(rt: HostRuntime) -> Result<(), Fail> {
+    let mut store = new_store(rt.alloc())?;
+    let (sweeper, _) = Sweeper::new().look(rt.alloc(), &mut store);
+    let (sweeper, _) = sweeper.aside(&mut store);
+    let (mut sweeper, noted) = sweeper.note(&mut store);
+    assert!(rt; noted == Ok(Done::Noted), "it waits");
+    let day = DayName {
+        machine: 7,
+        number: 2,
+    };
+    let Ok(file) = day_file(rt.alloc(), day, &[]) else {
+        return Err(Fail::new("there is no day file"));
+    };
+    let Ok(Some(other)) = store.read_day(DayName {
+        machine: 7,
+        number: 1,
+    }) else {
+        return Err(Fail::new("there is no day 1"));
+    };
+    assert!(rt; store.raise(7, 2) == Ok(()), "raised");
+    let Some((_, short)) = file.split_last() else {
+        return Err(Fail::new("there are no bytes"));
+    };
+    let Ok(mut damaged) = file.clone() else {
+        return Err(Fail::new("there is no memory"));
+    };
+    if let Some(byte) = damaged.first_mut() {
+        *byte = 0;
+    }
+    // no bytes, a byte too few, the file of another day, and one in which a byte is not as it was
+    for bytes in [&[], short, other.as_slice(), damaged.as_slice()] {
+        assert!(rt; store.name_day(day, bytes) == Ok(()), "named");
+        let (_, looked) = Sweeper::new().look(rt.alloc(), &mut store);
+        assert!(rt; looked == Err(Refusal::BadDay), "no look");
+        let decided;
+        (sweeper, decided) = sweeper.decide(rt.alloc(), &mut store);
+        assert!(rt; decided == Err(Refusal::BadDay), "no decision");
+        assert!(rt; store.let_go(day) == Ok(()), "let go");
+    }
+    assert!(rt; store.name_day(day, &file) == Ok(()), "of its form");
+    let (_sweeper, decided) = sweeper.decide(rt.alloc(), &mut store);
+    assert!(rt; decided == Ok(Done::Decided(0, 1)), "it still waited");
+    Ok(())
+}
+
+#[test]
 fn the_lowest_number_wins(rt: HostRuntime) -> Result<(), Fail> {
     let mut store = new_store(rt.alloc())?;
     let (sweeper, _) = Sweeper::new().look(rt.alloc(), &mut store);
@@ -113,7 +174,7 @@ fn what_is_damaged_aside_is_thrown_away(rt: HostRuntime) -> Result<(), Fail> {
     let (sweeper, _) = Sweeper::new().look(rt.alloc(), &mut store);
     let (sweeper, _) = sweeper.aside(&mut store);
     let (sweeper, _) = sweeper.note(&mut store);
-    make_day(&mut store, 2, &[])?;
+    make_day(rt.alloc(), &mut store, 2, &[])?;
     let (sweeper, decided) = sweeper.decide(rt.alloc(), &mut store);
     assert!(rt; decided == Ok(Done::Decided(0, 2)), "both go away");
     let (sweeper, _) = sweeper.next(&mut store);
@@ -139,7 +200,7 @@ fn it_comes_up_with_what_is_kept(rt: HostRuntime) -> Result<(), Fail> {
     let Ok(sweeper) = Sweeper::come_up(&mut store) else {
         return Err(Fail::new("it does not come up"));
     };
-    make_day(&mut store, 2, &[sha256(b"y")])?;
+    make_day(rt.alloc(), &mut store, 2, &[sha256(b"y")])?;
     let (_stopped, decided) = sweeper.decide(rt.alloc(), &mut store);
     assert!(rt; decided == Ok(Done::Decided(1, 0)), "it waited");
     let Ok(sweeper) = Sweeper::come_up(&mut store) else {
