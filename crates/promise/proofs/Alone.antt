@@ -49,7 +49,7 @@ after w s x = record { store = s; makes = w.makes; sweeper = x }
 steps : (w : World) (s : State) (x : Sweeping) → (((n : Digest) → Had w n → Had (after w s x) n) → (ns : List Digest) → HasRoom ns w → HasRoom ns (after w s x)) → sweeping.Step (plain w) (record { store = s; sweeper = x }) → Alone w (after w s x)
 steps w s x room k =
     record {
-      way = record { run = onward still (by_sweeper w.makes k); days = λ d ps e. h.days d ∙ e; had = λ n a. had n a; on_list = h.machines; highest = λ i. omega (arith, h.highest i); room = room (λ n a. has n a) };
+      way = record { run = onward still (by_sweeper w.makes k); days = λ d b e. h.days d ∙ e; had = λ n a. had n a; on_list = h.machines; highest = λ i. omega (arith, h.highest i); room = room (λ n a. has n a) };
       makes = λ i. refl;
       highest = h.highest;
     }
@@ -58,11 +58,11 @@ steps w s x room k =
     h = keeps k
 
     had : (n : Digest) → Had (after w s x) n → Had w n
-    had n (inl (d, ps, e, m)) = inl (d, ps, sym (h.days d) ∙ e, m)
+    had n (inl (d, es, e, m)) = inl (d, es, (e.0, sym (h.days d) ∙ e.1), m)
     had n (inr (i, c, o, e, m)) = inr (i, c, sym (h.machines i) ∙ o, e, m)
 
     has : (n : Digest) → Had w n → Had (after w s x) n
-    has n (inl (d, ps, e, m)) = inl (d, ps, h.days d ∙ e, m)
+    has n (inl (d, es, e, m)) = inl (d, es, (e.0, h.days d ∙ e.1), m)
     has n (inr (i, c, o, e, m)) = inr (i, c, h.machines i ∙ o, e, m)
 
 -- one that lists no name, and by which nothing comes to its place but what the sweeper has listed

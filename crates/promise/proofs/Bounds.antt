@@ -14,6 +14,7 @@ use Rattle.sweeper.specs.Sweepers.{Sweeping, anew, ends, noted_of, puts, rests, 
 use Rattle.sweeper.specs.System as sweeping
 use Rattle.promise.specs.Runs.{Reached, Run, onward, still}
 use Rattle.promise.specs.System.{AreMachines, Step, World, beside_machines, beside_sweeper, by_machine, by_sweeper, parts, start}
+use Rattle.promise.proofs.Forms.{Fit, IsForm, no_files, to_fit, to_form}
 use Rattle.promise.proofs.Names.{tests}
 
 -- the number of a day under way is its machine's highest, and no day has it
@@ -39,11 +40,13 @@ abbrev pub Noted : State → Sweeping → Type 0
 Noted s (waits h) = (i : ℕ) → i < most_machines → noted_of h i ≤ s.highest i
 Noted s other = Unit {0}
 
--- What lies there is of its name, listed, and aside only if the sweeper lists it; machines, days and numbers are in their bounds.
+-- What lies there is of its name, listed, and aside only if the sweeper lists it; machines, days and numbers are in their bounds, and days and those under way of their form.
 pub record Bounds (w : World) : Type 0 where
   pub right : (n : Digest) (b : List ℕ) → (w.store.place n ≡ Some b) ⊎ (w.store.aside n ≡ Some b) → digest_of b ≡ n
   pub on_list : (i : ℕ) → w.store.machines i ≡ true → i < most_machines
-  pub days : (d : DayName) (ps : List Digest) → w.store.days d ≡ Some ps → IsFound w.store d
+  pub days : (d : DayName) (b : List ℕ) → w.store.days d ≡ Some b → IsFound w.store d
+  pub forms : (d : DayName) (b : List ℕ) → w.store.days d ≡ Some b → IsForm d b
+  pub files : (i : ℕ) (c : Work) → w.makes i ≡ Some c → Fit c.files
   pub numbered : (i : ℕ) → Numbered w.store i (w.makes i)
   pub listed : (n : Digest) → IsSome (w.store.place n) ⊎ IsSome (w.store.aside n) → IsListed w.store n
   pub own : (n : Digest) → IsSome (w.store.aside n) → w.store.own n ≡ true
@@ -54,12 +57,16 @@ ruleset keep = (arith, tests)
 
 -- each step keeps the bounds
 by_machines : (x : Sweeping) {v w : machines.World} → machines.Step v w → Bounds (beside_sweeper v x) → Bounds (beside_sweeper w x)
-by_machines x (machines.begins w i o e) b = grind keep
+by_machines x (machines.begins w i o e) b = let f = no_files in grind keep
 by_machines x (machines.finds w i d p m l e) b = grind keep
 by_machines x (machines.lists w i d n m o l) b = grind keep
 by_machines x (machines.writes w i d p m l o) b = grind keep
+by_machines x (machines.adds w i d e m s f) b = let g = to_fit f in grind keep
+by_machines x (machines.forgets w i d m) b = grind keep
 by_machines x (machines.raises w i d m l) b = grind keep
-by_machines x (machines.names w i d k o e n f) b = grind keep
+by_machines x (machines.names w i d k o e n f) b =
+    let g = to_form (record { machine = i; number = k }) d.files (b.files i d e) in
+    grind keep
 by_machines x (machines.breaks w i) b = grind keep
 by_machines x (machines.lets_go w day e) b = grind keep
 

@@ -1,6 +1,6 @@
 -- What comes of lines that are played: every world that they lead to, and that they can be played.
 -- Assumes nothing.
-use Rattle.std.proofs.Common.{◌≡◌, ℕ, zero, suc, ◌+◌, ◌<◌, ◌≤◌, arith, Bool, true, false, not, ◌&&◌, List, [], ◌∷◌, length, Some, None, Option, is_some, is_none, IsSome, nat_lt, refl, sym, subst, ap}
+use Rattle.std.proofs.Common.{◌≡◌, ℕ, zero, suc, ◌+◌, ◌<◌, ◌≤◌, arith, Bool, true, false, not, ◌&&◌, List, [], ◌∷◌, ◌++◌, length, Some, None, Option, is_some, is_none, IsSome, nat_lt, refl, sym, subst, ap}
 use Rattle.std.proofs.lemmas.Bool.Decides.{nat_tests}
 use Rattle.std.specs.Option.{unwrap_or}
 use Rattle.store.proofs.Equality.{names_decide}
@@ -10,14 +10,16 @@ use Rattle.store.specs.declared.sweep.Noted.{Noted}
 use Rattle.store.specs.declared.sweep.Sweep.TheVariants as kept
 use Rattle.store.specs.Effects.{put_aside, put_back, with_aside, with_day, with_highest, with_listing, with_own, with_place, with_sweep, without_machine}
 use Rattle.store.specs.State.{State, empty, last_number, most_in_piece, most_machines, most_names, same_name}
-use Rattle.days.specs.Machines.{Work, new_day, with_number, with_piece}
+use Rattle.dayfile.specs.Form.{day_file}
+use Rattle.dayfile.specs.Limits.{AreFiles}
+use Rattle.days.specs.Machines.{Work, forgetting, new_day, with_file, with_number, with_piece}
 use Rattle.days.specs.System as machines
 use Rattle.days.specs.System.{put}
 use Rattle.sweeper.specs.Pieces.{HasFinished}
 use Rattle.sweeper.specs.Sweepers.{Sweeping, all_aside, ends, is_resting, noted_of, puts, rests, up, waits}
 use Rattle.sweeper.specs.System as sweeping
 use Rattle.sweeper.specs.System.{Decided, Looked}
-use Rattle.promise.specs.Cases.{Follows, Goes, Holds, Line, Part, Shows, plays, shows, aside, away, back, begin, break, decide, find, first, go, line_of, lines, list, list_own, look, name, note, over, part, played, raise, refuses, rest, stop, write}
+use Rattle.promise.specs.Cases.{Follows, Goes, Holds, Line, Part, Shows, plays, shows, add, aside, away, back, begin, break, decide, find, first, forget, go, line_of, lines, list, list_own, look, name, note, over, part, played, raise, refuses, rest, stop, write}
 use Rattle.promise.specs.System.{Step, World, by_machine, by_sweeper, parts, start}
 
 -- the day that machine i makes, if it makes one; and its number, if it has one
@@ -47,8 +49,10 @@ next (begin i) w = machine w w.store i (Some new_day)
 next (find i p) w = machine w w.store i (Some (with_piece (digest_of p) (work w i)))
 next (list i n) w = machine w (with_listing (record { machine = i; name = n }) w.store) i (Some (work w i))
 next (write i p) w = machine w (with_place (digest_of p) (Some p) w.store) i (Some (with_piece (digest_of p) (work w i)))
+next (add i e) w = machine w w.store i (Some (with_file e (work w i)))
+next (forget i) w = machine w w.store i (Some (forgetting (work w i)))
 next (raise i) w = machine w (with_highest i (w.store.highest i + 1) w.store) i (Some (with_number (w.store.highest i + 1) (work w i)))
-next (name i) w = machine w (with_day (record { machine = i; number = number w i }) (Some (work w i).pieces) w.store) i None
+next (name i) w = machine w (with_day (record { machine = i; number = number w i }) (Some (day_file (record { machine = i; number = number w i }) (work w i).files)) w.store) i None
 next (break i) w = machine w w.store i None
 next (part i) w = record w { store = without_machine i w.store }
 next (go day) w = record w { store = with_day day None w.store }
@@ -87,6 +91,8 @@ must P (by_machine x (machines.begins w i o e)) h = h
 must P (by_machine x (machines.finds w i d p m l e)) h = rw m.makes at (h e)
 must P (by_machine x (machines.lists w i d n m o l)) h = rw m.makes at h
 must P (by_machine x (machines.writes w i d p m l o)) h = rw m.makes at h
+must P (by_machine x (machines.adds w i d e m s f)) h = rw m.makes at h
+must P (by_machine x (machines.forgets w i d m)) h = rw m.makes at h
 must P (by_machine x (machines.raises w i d m l)) h = rw m.makes at h
 must P (by_machine x (machines.names w i d k o e n f)) h = rw n at (rw e at h)
 must P (by_machine x (machines.breaks w i)) h = h
@@ -132,12 +138,14 @@ abbrev pub is_over : Sweeping → Bool
 is_over (ends [] []) = true
 is_over other = false
 
--- whether there is a step for a line that leads to one world only; but for what a machine needs besides to see to a piece
+-- whether there is a step for a line that leads to one world only; but for what a machine needs besides to see to a piece, or to add a file
 abbrev pub may : Line → World → Bool
 may (begin i) w = w.store.machines i && is_none (w.makes i)
 may (find i p) w = makes_one w i
 may (list i n) w = makes_one w i && (not (w.store.listed (record { machine = i; name = n })) && nat_lt w.store.names most_names)
 may (write i p) w = makes_one w i && w.store.listed (record { machine = i; name = digest_of p })
+may (add i e) w = makes_one w i
+may (forget i) w = makes_one w i
 may (raise i) w = makes_one w i && nat_lt (w.store.highest i) last_number
 may (name i) w = w.store.machines i && (is_some (w.makes i) && (is_some (work w i).number && is_none (w.store.days (record { machine = i; number = number w i }))))
 may (break i) w = true
@@ -154,6 +162,7 @@ may other w = false
 abbrev pub Needs : Line → World → Type 0
 Needs (find i p) w = (length p ≤ most_in_piece) × (w.store.place (digest_of p) ≡ Some p)
 Needs (write i p) w = length p ≤ most_in_piece
+Needs (add i e) w = (e.pieces ≡ (work w i).seen) × AreFiles ((work w i).files ++ e ∷ [])
 Needs other w = Unit {0}
 
 -- there is a step
@@ -229,6 +238,8 @@ can (begin i) w e h = let (o, m) = split _ _ e in (by_machine w.sweeper (machine
 can (find i p) w e h = (by_machine w.sweeper (machines.finds (alone w) i (work w i) p (makes_it w i e) h.0 h.1), refl)
 can (list i n) w e h = let (m, f) = split _ _ e in let (l, g) = split _ _ f in (by_machine w.sweeper (machines.lists (alone w) i (work w i) n (makes_it w i m) (unfit _ l) (below _ _ g)), refl)
 can (write i p) w e h = let (m, l) = split _ _ e in (by_machine w.sweeper (machines.writes (alone w) i (work w i) p (makes_it w i m) h l), refl)
+can (add i f) w e h = (by_machine w.sweeper (machines.adds (alone w) i (work w i) f (makes_it w i e) h.0 h.1), refl)
+can (forget i) w e h = (by_machine w.sweeper (machines.forgets (alone w) i (work w i) (makes_it w i e)), refl)
 can (raise i) w e h = let (m, l) = split _ _ e in (by_machine w.sweeper (machines.raises (alone w) i (work w i) (makes_it w i m) (below _ _ l)), refl)
 can (name i) w e h =
     let (o, f) = split _ _ e in
@@ -285,7 +296,7 @@ all_finished s h m e zero o = finished s h 0 (split _ _ e).0
 all_finished s h m e (suc zero) o = finished s h 1 (split _ _ e).1
 all_finished s h m e (suc (suc i)) o = absurd (let l : (empty (0 ∷ 1 ∷ [])).machines (suc (suc i)) ≡ true = rw (ap (λ f. f (suc (suc i))) m) at o in grind (arith, nat_tests))
 
--- Lines can be played, where b says whether it was so before: what the sweeper finds is to be given, and what a machine needs to see to a piece; the rest is tested.
+-- Lines can be played, where b says whether it was so before: what the sweeper finds is to be given, and what a machine needs to see to a piece or to add a file; the rest is tested.
 abbrev pub Playable : Bool → List Line → World → Type 0
 Playable b [] w = b ≡ true
 Playable b (look ∷ ls) w = ((b && is_resting w.sweeper) ≡ true) × (left : List Digest) × Looked w.store left × Playable true ls (sweeper w w.store (puts left))
@@ -296,6 +307,7 @@ Playable b (decide ∷ ls) w =
     × Playable true ls (sweeper w (with_sweep kept.Ends w.store) (ends back away))
 Playable b (find i p ∷ ls) w = (b ≡ true) × Needs (find i p) w × Playable (may (find i p) w) ls (next (find i p) w)
 Playable b (write i p ∷ ls) w = (b ≡ true) × Needs (write i p) w × Playable (may (write i p) w) ls (next (write i p) w)
+Playable b (add i e ∷ ls) w = (b ≡ true) × Needs (add i e) w × Playable (may (add i e) w) ls (next (add i e) w)
 Playable b (l ∷ ls) w = Playable (b && may l w) ls (next l w)
 
 abbrev Plays : Bool → List Line → World → Type 0
@@ -324,6 +336,7 @@ playable b (decide ∷ ls) w (e, m, l, r, d, h) =
     (playable true ls _ h)
 playable b (find i p ∷ ls) w (e, n, h) = let (m, f) = playable _ ls _ h in (e, (on (find i p) (can (find i p) w m n) (refl, f)).1)
 playable b (write i p ∷ ls) w (e, n, h) = let (m, f) = playable _ ls _ h in (e, (on (write i p) (can (write i p) w m n) (refl, f)).1)
+playable b (add i f ∷ ls) w (e, n, h) = let (m, g) = playable _ ls _ h in (e, (on (add i f) (can (add i f) w m n) (refl, g)).1)
 playable b (l ∷ ls) w h = before b l ls w tt (playable _ ls _ h)
 
 -- The sweeper waits for a machine that has finished no day since.

@@ -4,15 +4,18 @@ use Rattle.std.proofs.Common.{◌≡◌, ◌⊎◌, inr, ℕ, zero, suc, ◌+◌
 use Rattle.std.proofs.lemmas.Bool.Decides.{Decides-below_or}
 use Rattle.std.proofs.lemmas.Map.Views.{any-filter_same}
 use Rattle.digest.specs.declared.value.Digest.{Digest}
+use Rattle.store.specs.declared.day.DayName.{DayName}
 use Rattle.store.specs.State.{State, is_in, most_machines, same_name}
 use Rattle.store.proofs.Equality.{names_decide}
+use Rattle.dayfile.specs.Entries.{names_of}
 use Rattle.days.specs.System as machines
-use Rattle.sweeper.specs.Pieces.{FoundHas, IsListed, IsRight, IsThere}
+use Rattle.sweeper.specs.Pieces.{FoundHas, IsListed, IsRight, IsWhole}
 use Rattle.sweeper.specs.System as sweeping
 use Rattle.sweeper.specs.System.{Decided, Looked}
 use Rattle.promise.specs.Runs.{Reached, Run, onward, still}
 use Rattle.promise.specs.System.{Step, World, by_machine, by_sweeper, parts}
 use Rattle.promise.proofs.Bounds.{Bounds}
+use Rattle.promise.proofs.Forms.{Has, IsForm, found_has, file_has, from_form, has_in, is_has}
 use Rattle.promise.proofs.Names.{tests}
 
 -- a list of all names that are listed, no longer than all lists together
@@ -65,36 +68,44 @@ below_decides : (p : ℕ → Bool) (P : ℕ → Type 0) → ((k : ℕ) → Decid
 unfolding below
 below_decides p P each n = Decides-below_or p P (below p) each refl (λ k. refl) n
 
+-- what may lie under the name of a day is the file of a day of that name; and it is so of all days
+abbrev pub AreForms : DayName → Option (List ℕ) → Type 0
+AreForms d o = (b : List ℕ) → o ≡ Some b → IsForm d b
+
+abbrev pub HaveForm : State → Type 0
+HaveForm s = (d : DayName) → AreForms d (s.days d)
+
 -- whether a day that may be there has a piece
-abbrev has_piece : Option (List Digest) → Digest → Bool
-has_piece None n = false
-has_piece (Some ps) n = is_in n ps
+has_piece : (d : DayName) (o : Option (List ℕ)) → AreForms d o → Digest → Bool
+has_piece d None f n = false
+has_piece d (Some b) f n = is_in n (names_of (from_form d b (f b refl)).0)
 
 -- it tells whether it does
-has_decides : (o : Option (List Digest)) (n : Digest) → Decides (has_piece o n) ((ps : List Digest) × (o ≡ Some ps) × (is_in n ps ≡ true))
-has_decides None n = (λ e. absurd cc, λ h. absurd cc)
-has_decides (Some ps) n = (λ e. (ps, refl, e), λ h. grind keep)
+has_decides : (d : DayName) (o : Option (List ℕ)) (f : AreForms d o) (n : Digest) → Decides (has_piece d o f n) ((b : List ℕ) × (o ≡ Some b) × Has d b n)
+unfolding has_piece
+has_decides d None f n = (λ e. absurd cc, λ h. absurd cc)
+has_decides d (Some b) f n = (λ e. (b, refl, is_has d b (from_form d b (f b refl)).0 n (from_form d b (f b refl)).1 e), λ (c, e, h). let g : b ≡ c = cc in has_in d _ n (from_form d b (f b refl)).1 (rw (sym g) at h))
 
 -- whether a day that can be found has it
-pub found : State → Digest → Bool
-found s n = below (λ i. below (λ k. has_piece (s.days (record { machine = i; number = k })) n) (s.highest i + 1)) most_machines
+pub found : (s : State) → HaveForm s → Digest → Bool
+found s f n = below (λ i. below (λ k. has_piece (record { machine = i; number = k }) (s.days (record { machine = i; number = k })) (f (record { machine = i; number = k })) n) (s.highest i + 1)) most_machines
 
 -- one of the days that can be found by their numbers has it
 abbrev There : State → Digest → Type 0
-There s n = (i : ℕ) × (i < most_machines) × ((k : ℕ) × (k < s.highest i + 1) × ((ps : List Digest) × (s.days (record { machine = i; number = k }) ≡ Some ps) × (is_in n ps ≡ true)))
+There s n = (i : ℕ) × (i < most_machines) × ((k : ℕ) × (k < s.highest i + 1) × ((b : List ℕ) × (s.days (record { machine = i; number = k }) ≡ Some b) × Has (record { machine = i; number = k }) b n))
 
 -- the search tells it
-there_decides : (s : State) (n : Digest) → Decides (found s n) (There s n)
+there_decides : (s : State) (f : HaveForm s) (n : Digest) → Decides (found s f n) (There s n)
 unfolding found
-there_decides s n = below_decides _ _ (λ i. below_decides _ _ (λ k. has_decides (s.days (record { machine = i; number = k })) n) (s.highest i + 1)) most_machines
+there_decides s f n = below_decides _ _ (λ i. below_decides _ _ (λ k. has_decides (record { machine = i; number = k }) (s.days (record { machine = i; number = k })) (f (record { machine = i; number = k })) n) (s.highest i + 1)) most_machines
 
 module _ {w : World} (b : Bounds w) where
   -- it tells whether a day that can be found has it
-  pub found_decides : (n : Digest) → Decides (found w.store n) (FoundHas w.store n)
-  found_decides n = (λ e. to ((there_decides w.store n).0 e), λ h. (there_decides w.store n).1 (h.day.machine, h.found.machine, (h.day.number, omega (arith, h.found.last), (h.pieces, h.is_there, h.has))))
+  pub found_decides : (n : Digest) → Decides (found w.store b.forms n) (FoundHas w.store n)
+  found_decides n = (λ e. to ((there_decides w.store b.forms n).0 e), λ h. (there_decides w.store b.forms n).1 (h.day.machine, h.found.machine, (h.day.number, omega (arith, h.found.last), (_, h.is_there.1, file_has w.store h.day h.files n h.is_there h.has))))
     where
       to : There w.store n → FoundHas w.store n
-      to (i, l, (k, m, (ps, e, h))) = record { day = record { machine = i; number = k }; pieces = ps; found = b.days _ _ e; is_there = e; has = h }
+      to (i, l, (k, m, (f, e, h))) = found_has w.store _ f n (b.days _ _ e) e h
 
 -- what passes a test
 pub in_filter : (p : Digest → Bool) (n : Digest) (xs : List Digest) → is_in n (filter p xs) ≡ (p n && is_in n xs)
@@ -102,12 +113,12 @@ in_filter p n xs = any-filter_same (same_name n) p (p n) (λ k e. ap p (sym ((na
 
 ruleset decide = (keep, in_filter)
 
-module _ {w : World} (b : Bounds w) (f : Finite w.store) (whole : (n : Digest) → FoundHas w.store n → IsThere w.store n) where
+module _ {w : World} (b : Bounds w) (f : Finite w.store) (whole : IsWhole w.store) where
   open w use {store}
 
   -- what a look finds
   abbrev unused : Digest → Bool
-  unused n = is_some (store.place n) && not (found store n)
+  unused n = is_some (store.place n) && not (found store b.forms n)
 
   -- so it can look
   pub to_look : (left : List Digest) × Looked store left
@@ -127,10 +138,10 @@ module _ {w : World} (b : Bounds w) (f : Finite w.store) (whole : (n : Digest) �
 
   -- what is aside goes back, or away
   abbrev goes_back : Digest → Bool
-  goes_back n = is_some (store.aside n) && found store n
+  goes_back n = is_some (store.aside n) && found store b.forms n
 
   abbrev goes_away : Digest → Bool
-  goes_away n = is_some (store.aside n) && not (found store n)
+  goes_away n = is_some (store.aside n) && not (found store b.forms n)
 
   -- so it can decide
   pub to_decide : (back : List Digest) × (away : List Digest) × Decided store back away

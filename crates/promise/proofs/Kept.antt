@@ -3,14 +3,16 @@
 use Rattle.std.proofs.Common.{◌≡◌, ◌⊎◌, ℕ, inl, inr, List, [], ◌∷◌, Some, Option, IsSome, arith}
 use Rattle.digest.specs.declared.value.Digest.{Digest}
 use Rattle.digest.specs.Digests.{digest_of}
+use Rattle.dayfile.specs.Form.{day_file}
 use Rattle.days.specs.Machines.{Work}
 use Rattle.days.specs.System as machines
 use Rattle.sweeper.specs.Pieces.{IsRight, IsThere}
 use Rattle.sweeper.specs.Sweepers.{Sweeping, ends}
 use Rattle.sweeper.specs.System as sweeping
-use Rattle.promise.specs.Promise.{AllIsRight, DayHas, DaysAreWhole, MachineHas, NothingIsLost, SeenIsThere, ThrowsOnly}
+use Rattle.promise.specs.Promise.{AllIsRight, DayHas, DaysAreOfForm, DaysAreWhole, MachineHas, NothingIsLost, SeenIsThere, ThrowsOnly}
 use Rattle.promise.specs.System.{Step, World, beside_machines, beside_sweeper, by_machine, by_sweeper, parts}
 use Rattle.promise.proofs.Bounds.{Bounds, bounds}
+use Rattle.promise.proofs.Forms.{file_has, from_form}
 use Rattle.promise.proofs.Names.{tests}
 use Rattle.promise.proofs.Safe.{Safe, safe}
 
@@ -28,9 +30,12 @@ is_there b n (inl h) = inl (right_in_place b n h)
 is_there {w} b n (inr h) = inr (is_right n (w.store.aside n) (λ p e. b.right n p (inr e)) h)
 
 pub days_are_whole : DaysAreWhole
-days_are_whole ms a w r n (d, ps, e, h) =
+days_are_whole ms a w r n (d, es, e, h) =
     let s = safe ms a r in
-    is_there (bounds ms a r) n (grind (arith, s.kept d ps n))
+    is_there (bounds ms a r) n (grind (arith, s.kept d (day_file d es) n e.1 (file_has w.store d es n e h)))
+
+pub days_are_of_form : DaysAreOfForm
+days_are_of_form ms a w r d b e = from_form d b ((bounds ms a r).forms d b e)
 
 pub seen_is_there : SeenIsThere
 seen_is_there ms a w r n (i, d, o, e, h) =
@@ -43,7 +48,7 @@ all_is_right ms a w r = (bounds ms a r).right
 
 -- when the sweeper throws away, all that days have and days under way is in its place
 in_place : (w : World) (n : Digest) (away : List Digest) → w.sweeper ≡ ends [] away → Bounds w → Safe w → DayHas w n ⊎ MachineHas w n → IsRight n (w.store.place n)
-in_place w n away x b s (inl (d, ps, e, h)) = right_in_place b n (grind (arith, s.kept d ps n))
+in_place w n away x b s (inl (d, es, e, h)) = right_in_place b n (grind (arith, s.kept d (day_file d es) n e.1 (file_has w.store d es n e h)))
 in_place w n away x b s (inr (i, d, o, e, h)) =
     let g = s.good i in
     right_in_place b n (grind (arith, g.sure))

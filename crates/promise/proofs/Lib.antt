@@ -1,13 +1,17 @@
 pub mod Alone
 pub mod Bounds
+pub mod CasesForms
 pub mod CasesPlay
 pub mod CasesRows
 pub mod CasesSweeps
 pub mod CasesZeros
 pub mod Finite
+pub mod Forms
 pub mod Kept
+pub mod Lasts
 pub mod Names
 pub mod Numbers
+pub mod Returns
 pub mod Rounds
 pub mod Safe
 pub mod Spares

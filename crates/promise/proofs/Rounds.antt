@@ -10,7 +10,7 @@ use Rattle.store.specs.declared.sweep.Noted.{Noted}
 use Rattle.store.specs.declared.sweep.Sweep.TheVariants as kept
 use Rattle.store.specs.Effects.{with_sweep}
 use Rattle.store.specs.State.{is_in, most_machines}
-use Rattle.sweeper.specs.Pieces.{FoundHas, HasFinished, IsThere}
+use Rattle.sweeper.specs.Pieces.{FoundHas, HasFinished, IsWhole}
 use Rattle.sweeper.specs.Sweepers.{Sweeping, anew, ends, noted_of, puts, rests, up, waits}
 use Rattle.sweeper.specs.System as sweeping
 use Rattle.sweeper.specs.System.{Decided, Looked}
@@ -19,6 +19,7 @@ use Rattle.promise.specs.Runs.{Reached}
 use Rattle.promise.specs.System.{AreMachines, World}
 use Rattle.promise.proofs.Bounds.{Bounds, bounds}
 use Rattle.promise.proofs.Finite.{Finite, finite, found, found_decides, to_decide, to_look}
+use Rattle.promise.proofs.Forms.{from_form}
 use Rattle.promise.proofs.Kept.{days_are_whole}
 use Rattle.promise.proofs.Names.{tests}
 use Rattle.promise.proofs.Way.{AllTook, Had, Way, all_take, joined, nowhere, on}
@@ -32,7 +33,7 @@ to_note f = (record { highest = map f (range_with_len 0 most_machines) }, λ i l
 
 -- what a day that can be found has, a day has as long as days stay
 still_has : {v w : World} → Way v w → (n : Digest) → FoundHas v.store n → DayHas w n
-still_has a n f = (f.day, f.pieces, a.days f.day f.pieces f.is_there, f.has)
+still_has a n f = (f.day, f.files, (f.is_there.0, a.days f.day _ f.is_there.1), f.has)
 
 -- nothing is aside at the end of a sweep that was decided
 none_aside : {v w : World} (back away : List Digest) → Bounds v → Decided v.store back away → Over back away (after v (with_sweep kept.Ends v.store) (ends back away)) w → (n : Digest) → w.store.aside n ≡ None
@@ -49,7 +50,7 @@ had_then back away d a n (inr h) = inr (still_has a n (d.goes_back n h).1)
 
 -- a day has what is in its place and is not to be put aside
 in_a_day : {v : World} (left : List Digest) → Bounds v → Looked v.store left → (n : Digest) → IsSome (v.store.place n) → (is_in n left ≡ true → ⊥) → FoundHas v.store n
-in_a_day {v} left b l n p h = go (found v.store n) (found_decides b n)
+in_a_day {v} left b l n p h = go (found v.store b.forms n) (found_decides b n)
   where
     go : (t : Bool) → Decides t (FoundHas v.store n) → FoundHas v.store n
     go true d = d.0 refl
@@ -86,12 +87,12 @@ module _ (ms : List ℕ) (are : AreMachines ms) (ns : List Digest) where
     counted : Finite w.store
     counted = finite ms q.reached
 
-    whole : (n : Digest) → FoundHas w.store n → IsThere w.store n
-    whole n f = days_are_whole ms are w q.reached n (f.day, f.pieces, f.is_there, f.has)
+    whole : IsWhole w.store
+    whole = record { forms = λ d b f e. from_form d b (bounded.forms d b e); pieces = λ n f. days_are_whole ms are w q.reached n (f.day, f.files, f.is_there, f.has) }
 
     -- what no day has that can be found, nobody has
     nobody : (n : Digest) → (FoundHas w.store n → ⊥) → Had w n → ⊥
-    nobody n h (inl (d, ps, e, m)) = h (record { day = d; pieces = ps; found = bounded.days d ps e; is_there = e; has = m })
+    nobody n h (inl (d, es, e, m)) = h (record { day = d; files = es; found = bounded.days d _ e.1; is_there = e; has = m })
     nobody n h (inr (i, c, o, e, m)) = let f : w.makes i ≡ None = q.idle i o in absurd cc
 
   -- the sweeper leaves it so
@@ -221,7 +222,7 @@ module _ (ms : List ℕ) (are : AreMachines ms) (ns : List Digest) where
               days = way.days;
               machines = way.on_list;
               finished = λ i d o e. let (k, n, f) = (t.took i o).done d e in (k, n, then.days _ _ f);
-              no_other = λ d ps e n m. way.had n (inl (d, ps, e, m));
+              no_other = λ n h. way.had n (inl h);
             },
             way.room ns room,
             s.left,

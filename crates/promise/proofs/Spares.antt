@@ -72,7 +72,7 @@ goes_on n left k e (u, x, r, f, i, g, l, t) = (u, x, r, f, i, g, l, further t k 
 
 looks_at : {s v w : World} (n : Digest) (left : List Digest) → Bounds v → Run s v → Step v w → w.sweeper ≡ puts left → Looks v n → WasSpared s w n
 looks_at {v = v} {w = w} n left b r k e (rest, is, none) =
-    (v, w, r, rest, is, λ (d, ps, f, h). none (record { day = d; pieces = ps; found = b.days d ps f; is_there = f; has = h }), k, here (left, e))
+    (v, w, r, rest, is, λ (d, es, f, h). none (record { day = d; files = es; found = b.days d _ f.1; is_there = f; has = h }), k, here (left, e))
 
 spared : {s w : World} → Run s w → Bounds s → s.sweeper ≡ rests → (n : Digest) (left : List Digest) → w.sweeper ≡ puts left → is_in n left ≡ true → WasSpared s w n
 spared still b f n left e h = absurd (grind arith)

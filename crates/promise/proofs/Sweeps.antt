@@ -94,7 +94,7 @@ sweeper_gone n m (sweeping.stops w) b none g = grind keep
 -- no machine sees to it, or at least what the sweeper does changes
 gone_step : (n : Digest) {v w : World} → Step v w → (SeesTo n v w → v.sweeper ≡ w.sweeper → ⊥) → Bounds v → (Finds v.sweeper w.sweeper → DayHas v n → ⊥) → Gone v.store n v.sweeper → Gone w.store n w.sweeper
 gone_step n (by_machine x k) s b d g = machines_gone n x k (λ y. s y refl) g
-gone_step n (by_sweeper m k) s b d g = sweeper_gone n m k b (λ t f. d t (f.day, f.pieces, f.is_there, f.has)) g
+gone_step n (by_sweeper m k) s b d g = sweeper_gone n m k b (λ t f. d t (f.day, f.files, f.is_there, f.has)) g
 gone_step n (parts w i o) s b d g = g
 
 -- what is known of such a piece on the way

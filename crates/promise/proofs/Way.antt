@@ -5,26 +5,29 @@ use Rattle.digest.specs.declared.value.Digest.{Digest}
 use Rattle.store.specs.declared.day.DayName.{DayName}
 use Rattle.store.specs.Effects.{with_day, with_highest}
 use Rattle.store.specs.State.{is_in, last_number, most_machines}
+use Rattle.dayfile.specs.Entries.{names_of}
+use Rattle.dayfile.specs.Form.{day_file}
 use Rattle.days.specs.Machines.{Work, new_day, with_number}
 use Rattle.days.specs.System as machines
 use Rattle.days.specs.System.{put}
 use Rattle.sweeper.specs.Pieces.{HasFinished}
-use Rattle.promise.specs.Promise.{DayHas, HasRoom, HaveNumbers, MachineHas}
+use Rattle.promise.specs.Promise.{DayHas, HasRoom, HaveNumbers, MachineKeeps}
 use Rattle.promise.specs.Runs.{Run, onward, still}
 use Rattle.promise.specs.System.{World, by_machine}
 use Rattle.promise.proofs.Bounds.{Bounds, NumberIs, bounds_run}
+use Rattle.promise.proofs.Forms.{Fit, Has, file_has, from_fit, has_then}
 use Rattle.promise.proofs.Names.{tests}
 
 ruleset keep = (arith, tests)
 
--- what a day has, or a machine on the list
+-- what a day has, or a file that a machine on the list has added to one
 abbrev pub Had : World → Digest → Type 0
-Had w n = DayHas w n ⊎ MachineHas w n
+Had w n = DayHas w n ⊎ MachineKeeps w n
 
 -- a way on which days stay, and nothing comes to be had that was not, and the sweeper's room is no less than it needs
 pub record Way (v w : World) : Type 0 where
   pub run : Run v w
-  pub days : (d : DayName) (ps : List Digest) → v.store.days d ≡ Some ps → w.store.days d ≡ Some ps
+  pub days : (d : DayName) (b : List ℕ) → v.store.days d ≡ Some b → w.store.days d ≡ Some b
   pub had : (n : Digest) → Had w n → Had v n
   pub on_list : (i : ℕ) → w.store.machines i ≡ v.store.machines i
   pub highest : (i : ℕ) → v.store.highest i ≤ w.store.highest i
@@ -41,7 +44,7 @@ same_room v w e own place has ns r =
       room = rw (sym e) at r.room;
     }
   where
-    nobody : (n : Digest) → (DayHas w n → ⊥) → (MachineHas w n → ⊥) → Had w n → ⊥
+    nobody : (n : Digest) → (DayHas w n → ⊥) → (MachineKeeps w n → ⊥) → Had w n → ⊥
     nobody n d m (inl h) = d h
     nobody n d m (inr h) = m h
 
@@ -54,7 +57,7 @@ pub on : {u v w : World} → Way u v → Way v w → Way u w
 on {u} {v} {w} a b =
     record {
       run = joined a.run b.run;
-      days = λ d ps e. b.days d ps (a.days d ps e);
+      days = λ d c e. b.days d c (a.days d c e);
       had = λ n h. a.had n (b.had n h);
       on_list = λ i. b.on_list i ∙ a.on_list i;
       highest = λ i. omega (arith, a.highest i, b.highest i);
@@ -63,7 +66,7 @@ on {u} {v} {w} a b =
 
 -- no step
 pub nowhere : (w : World) → Way w w
-nowhere w = record { run = still; days = λ d ps e. e; had = λ n h. h; on_list = λ i. refl; highest = λ i. omega arith; room = λ ns h. h }
+nowhere w = record { run = still; days = λ d b e. e; had = λ n h. h; on_list = λ i. refl; highest = λ i. omega arith; room = λ ns h. h }
 
 -- the world after a machine began a day, raised its number, and named it
 abbrev begun : World → ℕ → World
@@ -73,7 +76,7 @@ abbrev raised : World → ℕ → Work → World
 raised w i d = record { store = with_highest i (w.store.highest i + 1) w.store; makes = put i (Some (with_number (w.store.highest i + 1) d)) w.makes; sweeper = w.sweeper }
 
 abbrev named : World → ℕ → Work → ℕ → World
-named w i d k = record { store = with_day (record { machine = i; number = k }) (Some d.pieces) w.store; makes = put i None w.makes; sweeper = w.sweeper }
+named w i d k = record { store = with_day (record { machine = i; number = k }) (Some (day_file (record { machine = i; number = k }) d.files)) w.store; makes = put i None w.makes; sweeper = w.sweeper }
 
 -- a world without what the sweeper does
 abbrev plain : World → machines.World
@@ -84,7 +87,7 @@ begins : (w : World) (i : ℕ) → w.store.machines i ≡ true → w.makes i ≡
 begins w i o e =
     record {
       run = onward still (by_machine w.sweeper (machines.begins (plain w) i o e));
-      days = λ d ps h. h;
+      days = λ d b h. h;
       had = λ n h. had n h;
       on_list = λ j. refl;
       highest = λ j. omega arith;
@@ -98,7 +101,7 @@ begins w i o e =
     has n (inl h) = inl h
     has n (inr (j, c, p, h, m)) = inr (j, c, p, same j c h, m)
 
-    machine : (n : Digest) (j : ℕ) (c : Work) → w.store.machines j ≡ true → put i (Some new_day) w.makes j ≡ Some c → is_in n c.pieces ≡ true → w.makes j ≡ Some c
+    machine : (n : Digest) (j : ℕ) (c : Work) → w.store.machines j ≡ true → put i (Some new_day) w.makes j ≡ Some c → is_in n (names_of c.files) ≡ true → w.makes j ≡ Some c
     machine n j c o h m = grind keep
 
     had : (n : Digest) → Had (begun w i) n → Had w n
@@ -110,22 +113,22 @@ raises : (w : World) (i : ℕ) (d : Work) → w.store.machines i ≡ true → w.
 raises w i d o e f l =
     record {
       run = onward still (by_machine w.sweeper (machines.raises (plain w) i d (record { on_list = o; makes = e; no_number = f }) l));
-      days = λ d ps h. h;
+      days = λ d b h. h;
       had = λ n h. had n h;
       on_list = λ j. refl;
       highest = λ j. grind keep;
       room = same_room w (raised w i d) refl (λ n o. o) (λ n o h. h) (λ n h. has n h);
     }
   where
-    seen : (n : Digest) (j : ℕ) (c : Work) → w.makes j ≡ Some c → is_in n c.pieces ≡ true →
-        (put i (Some (with_number (w.store.highest i + 1) d)) w.makes j ≡ Some c) ⊎ (put i (Some (with_number (w.store.highest i + 1) d)) w.makes j ≡ Some (with_number (w.store.highest i + 1) d)) × (is_in n d.pieces ≡ true)
+    seen : (n : Digest) (j : ℕ) (c : Work) → w.makes j ≡ Some c → is_in n (names_of c.files) ≡ true →
+        (put i (Some (with_number (w.store.highest i + 1) d)) w.makes j ≡ Some c) ⊎ (put i (Some (with_number (w.store.highest i + 1) d)) w.makes j ≡ Some (with_number (w.store.highest i + 1) d)) × (is_in n (names_of d.files) ≡ true)
     seen n j c h m = grind keep
 
     has : (n : Digest) → Had w n → Had (raised w i d) n
     has n (inl h) = inl h
     has n (inr (j, c, p, h, m)) = elim (seen n j c h m) [ inl g ↦ inr (j, c, p, g, m) | inr g ↦ inr (j, with_number (w.store.highest i + 1) d, p, g.0, g.1) ]
 
-    machine : (n : Digest) (j : ℕ) (c : Work) → put i (Some (with_number (w.store.highest i + 1) d)) w.makes j ≡ Some c → is_in n c.pieces ≡ true → (b : Work) × (w.makes j ≡ Some b) × (is_in n b.pieces ≡ true)
+    machine : (n : Digest) (j : ℕ) (c : Work) → put i (Some (with_number (w.store.highest i + 1) d)) w.makes j ≡ Some c → is_in n (names_of c.files) ≡ true → (b : Work) × (w.makes j ≡ Some b) × (is_in n (names_of b.files) ≡ true)
     machine n j c h m = grind keep
 
     had : (n : Digest) → Had (raised w i d) n → Had w n
@@ -133,46 +136,46 @@ raises w i d o e f l =
     had n (inr (j, c, p, h, m)) = let z = machine n j c h m in inr (j, z.0, p, z.1, z.2)
 
 -- it names its day
-names : (w : World) (i : ℕ) (d : Work) (k : ℕ) → w.store.machines i ≡ true → w.makes i ≡ Some d → d.number ≡ Some k → w.store.days (record { machine = i; number = k }) ≡ None → Way w (named w i d k)
-names w i d k o e f new =
+names : (w : World) (i : ℕ) (d : Work) (k : ℕ) → Fit d.files → w.store.machines i ≡ true → w.makes i ≡ Some d → d.number ≡ Some k → w.store.days (record { machine = i; number = k }) ≡ None → Way w (named w i d k)
+names w i d k fit o e f new =
     record {
       run = onward still (by_machine w.sweeper (machines.names (plain w) i d k o e f new));
-      days = λ q ps h. grind keep;
+      days = λ q b h. grind keep;
       had = λ n h. had n h;
       on_list = λ j. refl;
       highest = λ j. omega arith;
       room = same_room w (named w i d k) refl (λ n o. o) (λ n o h. h) (λ n h. has n h);
     }
   where
-    kept : (q : DayName) (ps : List Digest) → w.store.days q ≡ Some ps → (named w i d k).store.days q ≡ Some ps
-    kept q ps h = grind keep
+    kept : (q : DayName) (b : List ℕ) → w.store.days q ≡ Some b → (named w i d k).store.days q ≡ Some b
+    kept q b h = grind keep
 
-    seen : (n : Digest) (j : ℕ) (c : Work) → w.makes j ≡ Some c → is_in n c.pieces ≡ true → (put i None w.makes j ≡ Some c) ⊎ (is_in n d.pieces ≡ true)
+    seen : (n : Digest) (j : ℕ) (c : Work) → w.makes j ≡ Some c → is_in n (names_of c.files) ≡ true → (put i None w.makes j ≡ Some c) ⊎ (is_in n (names_of d.files) ≡ true)
     seen n j c h m = grind keep
 
-    named_it : (named w i d k).store.days (record { machine = i; number = k }) ≡ Some d.pieces
+    named_it : (named w i d k).store.days (record { machine = i; number = k }) ≡ Some (day_file (record { machine = i; number = k }) d.files)
     named_it = grind keep
 
     has : (n : Digest) → Had w n → Had (named w i d k) n
-    has n (inl (q, ps, h, m)) = inl (q, ps, kept q ps h, m)
-    has n (inr (j, c, p, h, m)) = elim (seen n j c h m) [ inl g ↦ inr (j, c, p, g, m) | inr g ↦ inl (record { machine = i; number = k }, d.pieces, named_it, g) ]
+    has n (inl (q, es, h, m)) = inl (q, es, (h.0, kept q _ h.1), m)
+    has n (inr (j, c, p, h, m)) = elim (seen n j c h m) [ inl g ↦ inr (j, c, p, g, m) | inr g ↦ inl (record { machine = i; number = k }, d.files, (from_fit fit, named_it), g) ]
 
-    day : (n : Digest) (q : DayName) (ps : List Digest) → (named w i d k).store.days q ≡ Some ps → (w.store.days q ≡ Some ps) ⊎ (ps ≡ d.pieces)
-    day n q ps h = grind keep
+    day : (n : Digest) (q : DayName) (b : List ℕ) → (named w i d k).store.days q ≡ Some b → Has q b n → (w.store.days q ≡ Some b) ⊎ (is_in n (names_of d.files) ≡ true)
+    day n q b h m = let t = has_then (record { machine = i; number = k }) d.files n fit in grind keep
 
     machine : (n : Digest) (j : ℕ) (c : Work) → put i None w.makes j ≡ Some c → w.makes j ≡ Some c
     machine n j c h = grind keep
 
     had : (n : Digest) → Had (named w i d k) n → Had w n
-    had n (inl (q, ps, h, m)) = elim (day n q ps h) [ inl g ↦ inl (q, ps, g, m) | inr g ↦ inr (i, d, o, e, rw g at m) ]
+    had n (inl (q, es, h, m)) = elim (day n q (day_file q es) h.1 (file_has (named w i d k).store q es n h m)) [ inl g ↦ inl (q, es, (h.0, g), m) | inr g ↦ inr (i, d, o, e, g) ]
     had n (inr (j, c, p, h, m)) = inr (j, c, p, machine n j c h, m)
 
 -- days stay
 still_there : {v w : World} → Way v w → (d : DayName) → IsSome (v.store.days d) → IsSome (w.store.days d)
 still_there {v} {w} a d h = go (v.store.days d) refl
   where
-    go : (o : Option (List Digest)) → v.store.days d ≡ o → IsSome (w.store.days d)
-    go (Some ps) e = rw (a.days d ps e)
+    go : (o : Option (List ℕ)) → v.store.days d ≡ o → IsSome (w.store.days d)
+    go (Some b) e = rw (a.days d b e)
     go None e = absurd cc
 
 -- what a machine finished stays so
@@ -183,13 +186,13 @@ still_finished i k a (n, l, m, h) = (n, l, omega (arith, a.highest i), still_the
 was_none : {v w : World} → Way v w → (d : DayName) → w.store.days d ≡ None → v.store.days d ≡ None
 was_none {v} {w} a d h = go (v.store.days d) refl
   where
-    go : (o : Option (List Digest)) → v.store.days d ≡ o → v.store.days d ≡ None
+    go : (o : Option (List ℕ)) → v.store.days d ≡ o → v.store.days d ≡ None
     go None e = e
-    go (Some ps) e = let f = a.days d ps e in absurd cc
+    go (Some b) e = let f = a.days d b e in absurd cc
 
 -- a machine finished the day that it made, if it made one, and that day is new
 abbrev pub Finishes : ℕ → World → World → Type 0
-Finishes i v w = (x : Work) → v.makes i ≡ Some x → (k : ℕ) × (v.store.days (record { machine = i; number = k }) ≡ None) × (w.store.days (record { machine = i; number = k }) ≡ Some x.pieces)
+Finishes i v w = (x : Work) → v.makes i ≡ Some x → (k : ℕ) × (v.store.days (record { machine = i; number = k }) ≡ None) × (w.store.days (record { machine = i; number = k }) ≡ Some (day_file (record { machine = i; number = k }) x.files))
 
 -- a machine had its turn: it finished the day that it made, if it made one, and a day above its highest number
 pub record Turned (i : ℕ) (v w : World) : Type 0 where
@@ -245,9 +248,9 @@ next_is_free {w} b i = go (w.store.days day) refl
     day : DayName
     day = record { machine = i; number = w.store.highest i + 1 }
 
-    go : (o : Option (List Digest)) → w.store.days day ≡ o → w.store.days day ≡ None
+    go : (o : Option (List ℕ)) → w.store.days day ≡ o → w.store.days day ≡ None
     go None e = e
-    go (Some ps) e = let f = b.days day ps e in absurd (omega (arith, f.last))
+    go (Some c) e = let f = b.days day c e in absurd (omega (arith, f.last))
 
 module _ (w : World) (i : ℕ) (b : Bounds w) (o : w.store.machines i ≡ true) (l : w.store.highest i < last_number) where
   -- it makes a day whose number is not raised
@@ -255,7 +258,7 @@ module _ (w : World) (i : ℕ) (b : Bounds w) (o : w.store.machines i ≡ true) 
   unraised d e f = (
     v,
     record {
-      way = on (raises w i d o e f l) (names u i x k o (grind keep) refl (next_is_free b i));
+      way = on (raises w i d o e f l) (names u i x k (b.files i d e) o (grind keep) refl (next_is_free b i));
       turned = record { idle = grind keep; high = grind keep; done = λ c g. done c g; new = (k, omega arith, grind keep, grind keep) };
       others = λ j h. (grind keep, grind keep);
       still = record { sweeper = refl; place = λ n. refl };
@@ -298,9 +301,9 @@ module _ (w : World) (i : ℕ) (b : Bounds w) (o : w.store.machines i ≡ true) 
       none = let n : NumberIs w.store i d.number = (rw e at (b.numbered i)).1 in (rw f at n).2
 
       a : Way w u
-      a = names w i d k o e f none
+      a = names w i d k (b.files i d e) o e f none
 
-      day : (x : Work) → w.makes i ≡ Some x → u.store.days (record { machine = i; number = k }) ≡ Some x.pieces
+      day : (x : Work) → w.makes i ≡ Some x → u.store.days (record { machine = i; number = k }) ≡ Some (day_file (record { machine = i; number = k }) x.files)
       day x g = grind keep
 
   -- whatever it makes

@@ -1,18 +1,20 @@
 -- Worked cases: steps that are played one after the other from the beginning, and what they must show.
 -- Assumes nothing.
-use Rattle.std.specs.Prelude.{◌≡◌, ℕ, List, [], ◌∷◌, ◌++◌, ◌≤◌, length, map, replicate, Some, None}
+use Rattle.std.specs.Prelude.{◌≡◌, ℕ, List, [], ◌∷◌, ◌++◌, ◌≤◌, codes, length, map, replicate, Some, None}
 use Rattle.std.specs.List.{All}
 use Rattle.cutting.specs.Rule.{pieces}
 use Rattle.digest.specs.declared.value.Digest.{Digest}
 use Rattle.digest.specs.Digests.{digest_of}
 use Rattle.store.specs.declared.day.DayName.{DayName}
 use Rattle.store.specs.State.{is_in, most_in_piece}
+use Rattle.dayfile.specs.Entries.{Entry}
+use Rattle.dayfile.specs.Stored.{HasFiles}
 use Rattle.days.specs.System as machines
 use Rattle.sweeper.specs.Sweepers.{ends, puts, rests}
 use Rattle.sweeper.specs.System as sweeping
 use Rattle.promise.specs.System.{Step, World, by_machine, by_sweeper, parts, start}
 
--- A line of a script: what kind of step it is, and of what. The words are those of the script of `rehearse`, with these differences: there a machine finds a piece, or lists its name and writes it, by one line, `see`; the sweeper lists a name and puts the piece aside by one line, `aside`; it puts back and throws away by `next`, and rests as soon as nothing is left, without a line.
+-- A line of a script: what kind of step it is, and of what. The words are those of the script of `rehearse`, with these differences: there a machine finds a piece, or lists its name and writes it, and adds it to its day as a file, by one line, `see`; the sweeper lists a name and puts the piece aside by one line, `aside`; it puts back and throws away by `next`, and rests as soon as nothing is left, without a line.
 pub data Line : Type 0 where
   -- machine i begins a day
   begin : (i : ℕ) → Line
@@ -20,6 +22,9 @@ pub data Line : Type 0 where
   find : (i : ℕ) → (p : List ℕ) → Line
   list : (i : ℕ) → (n : Digest) → Line
   write : (i : ℕ) → (p : List ℕ) → Line
+  -- it adds a file to its day; or does not, and forgets what it has seen to for it
+  add : (i : ℕ) → (e : Entry) → Line
+  forget : (i : ℕ) → Line
   -- it raises its number; names its day; breaks it off, or stops and comes up again
   raise : (i : ℕ) → Line
   name : (i : ℕ) → Line
@@ -49,6 +54,8 @@ machine_line (machines.begins w i o e) = begin i
 machine_line (machines.finds w i d p m l e) = find i p
 machine_line (machines.lists w i d n m o l) = list i n
 machine_line (machines.writes w i d p m l o) = write i p
+machine_line (machines.adds w i d e m s f) = add i e
+machine_line (machines.forgets w i d m) = forget i
 machine_line (machines.raises w i d m l) = raise i
 machine_line (machines.names w i d k o e n f) = name i
 machine_line (machines.breaks w i) = break i
@@ -84,7 +91,7 @@ pub data Fact : Type 0 where
   -- it is aside; or nothing is aside at all
   is_aside : (p : List ℕ) → Fact
   nothing_aside : Fact
-  -- there is this day, with just the pieces of these bytes
+  -- there is this day, with just the files that are one of these pieces each
   has_day : (i k : ℕ) → (ps : List (List ℕ)) → Fact
   -- the sweeper rests; is to put just these pieces aside; is to put just these back, and to throw just those away
   resting : Fact
@@ -92,6 +99,10 @@ pub data Fact : Type 0 where
   to_end : (back away : List (List ℕ)) → Fact
   -- no step of this kind is possible
   refuses : Line → Fact
+
+-- a file that is one piece
+abbrev pub one_piece : List ℕ → Entry
+one_piece p = record { path = codes "0001"; length = length p; pieces = digest_of p ∷ [] }
 
 -- these are the names of these pieces, however often each
 abbrev pub AreNames : List Digest → List (List ℕ) → Type 0
@@ -103,7 +114,7 @@ Shows w (in_place p) = w.store.place (digest_of p) ≡ Some p
 Shows w (not_in_place p) = w.store.place (digest_of p) ≡ None
 Shows w (is_aside p) = w.store.aside (digest_of p) ≡ Some p
 Shows w nothing_aside = (n : Digest) → w.store.aside n ≡ None
-Shows w (has_day i k ps) = w.store.days (record { machine = i; number = k }) ≡ Some (map digest_of ps)
+Shows w (has_day i k ps) = HasFiles w.store (record { machine = i; number = k }) (map one_piece ps)
 Shows w resting = w.sweeper ≡ rests
 Shows w (to_put_aside ps) = (left : List Digest) × (w.sweeper ≡ puts left) × AreNames left ps
 Shows w (to_end ps qs) = (left : List Digest) × (others : List Digest) × (w.sweeper ≡ ends left others) × (AreNames left ps × AreNames others qs)
@@ -144,7 +155,7 @@ abbrev pub empty_day : ℕ → List Line
 empty_day i = begin i ∷ finishes i
 
 abbrev pub let_go : ℕ → List ℕ → List Line
-let_go i p = begin i ∷ list i (digest_of p) ∷ write i p ∷ finishes i ++ go (record { machine = i; number = 1 }) ∷ []
+let_go i p = begin i ∷ list i (digest_of p) ∷ write i p ∷ add i (one_piece p) ∷ finishes i ++ go (record { machine = i; number = 1 }) ∷ []
 
 -- The sweeper looks, finds that just this piece is to be put aside, and does it.
 abbrev pub goes_aside : List ℕ → List Part
@@ -164,12 +175,12 @@ abbrev pub case_a : List ℕ → List Part
 case_a p =
     plays (let_go 0 p) ∷ goes_aside p
     ++ plays (note ∷ begin 0 ∷ []) ∷ shows (refuses (find 0 p))
-    ∷ plays (write 0 p ∷ finishes 0) ∷ shows (has_day 0 2 (p ∷ [])) ∷ shows (in_place p) ∷ shows (is_aside p) ∷ shows (refuses decide)
+    ∷ plays (write 0 p ∷ add 0 (one_piece p) ∷ finishes 0) ∷ shows (has_day 0 2 (p ∷ [])) ∷ shows (in_place p) ∷ shows (is_aside p) ∷ shows (refuses decide)
     ∷ plays (empty_day 1) ∷ goes_back p
 
 -- Before B to E: a day of machine 1 has the piece, and is let go. Machine 0 begins a day and finds the piece in its place. Then it is put aside.
 abbrev pub found_first : List ℕ → List Part
-found_first p = plays (let_go 1 p ++ begin 0 ∷ []) ∷ shows (in_place p) ∷ plays (find 0 p ∷ []) ∷ goes_aside p
+found_first p = plays (let_go 1 p ++ begin 0 ∷ []) ∷ shows (in_place p) ∷ plays (find 0 p ∷ add 0 (one_piece p) ∷ []) ∷ goes_aside p
 
 -- B. Machine 0 finishes its day: the piece goes back.
 abbrev pub case_b : List ℕ → List Part
@@ -222,4 +233,4 @@ cases p =
     played (case_a p) ∷ played (case_b p) ∷ played (case_b_raised p) ∷ played (case_c p) ∷ played (case_d p) ∷ played (case_e p) ∷ case_f ∷ []
 
 abbrev pub Cases : Type 0
-Cases = (p : List ℕ) → length p ≤ most_in_piece → All Holds (cases p)
+Cases = (p : List ℕ) → 1 ≤ length p → length p ≤ most_in_piece → All Holds (cases p)

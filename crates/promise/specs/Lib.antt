@@ -1,3 +1,4 @@
+pub mod Back
 pub mod Cases
 pub mod Promise
 pub mod Runs

@@ -6,7 +6,10 @@ use Rattle.digest.specs.Digests.{digest_of}
 use Rattle.store.specs.declared.day.DayName.{DayName}
 use Rattle.store.specs.Effects.{with_day}
 use Rattle.store.specs.State.{State, is_in, last_number, most_names}
-use Rattle.days.specs.Machines.{Work, with_piece}
+use Rattle.dayfile.specs.Entries.{Entry, names_of}
+use Rattle.dayfile.specs.Form.{day_file}
+use Rattle.dayfile.specs.Stored.{HasFiles, IsDayOf}
+use Rattle.days.specs.Machines.{Work, all_seen, with_piece}
 use Rattle.sweeper.specs.Pieces.{IsListed, IsRight, IsThere}
 use Rattle.sweeper.specs.Sweepers.{puts, rests}
 use Rattle.promise.specs.Runs.{PutsAside, Reached, Run, Through, WholeSweep}
@@ -14,11 +17,15 @@ use Rattle.promise.specs.System.{AreMachines, Step, World}
 
 -- a kept day has this piece
 abbrev pub DayHas : World → Digest → Type 0
-DayHas w n = (d : DayName) × (ps : List Digest) × (w.store.days d ≡ Some ps) × (is_in n ps ≡ true)
+DayHas w n = (d : DayName) × (es : List Entry) × HasFiles w.store d es × (is_in n (names_of es) ≡ true)
 
 -- a machine on the list has seen to it for the day that it is making
 abbrev pub MachineHas : World → Digest → Type 0
-MachineHas w n = (i : ℕ) × (d : Work) × (w.store.machines i ≡ true) × (w.makes i ≡ Some d) × (is_in n d.pieces ≡ true)
+MachineHas w n = (i : ℕ) × (d : Work) × (w.store.machines i ≡ true) × (w.makes i ≡ Some d) × (is_in n (all_seen d) ≡ true)
+
+-- and has added a file to that day that has it
+abbrev pub MachineKeeps : World → Digest → Type 0
+MachineKeeps w n = (i : ℕ) × (d : Work) × (w.store.machines i ≡ true) × (w.makes i ≡ Some d) × (is_in n (names_of d.files) ≡ true)
 
 -- from one world to the next a machine sees to a piece
 abbrev pub SeesTo : Digest → World → World → Type 0
@@ -34,6 +41,10 @@ EachStep P = Always (λ v. (w : World) → Step v w → P v w)
 -- 1. Every piece of every kept day is in its place or aside, with the right bytes: their digest is its name.
 abbrev pub DaysAreWhole : Type 0
 DaysAreWhole = Always (λ w. (n : Digest) → DayHas w n → IsThere w.store n)
+
+-- What lies under the name of a kept day is the file of a day of that name.
+abbrev pub DaysAreOfForm : Type 0
+DaysAreOfForm = Always (λ w. (d : DayName) (b : List ℕ) → w.store.days d ≡ Some b → (es : List Entry) × IsDayOf d es b)
 
 -- 2. So is every piece that a machine on the list has seen to for the day that it is making.
 abbrev pub SeenIsThere : Type 0
@@ -53,14 +64,14 @@ NothingIsLost = EachStep ThrowsOnly
 abbrev pub AllIsRight : Type 0
 AllIsRight = Always (λ w. (n : Digest) (b : List ℕ) → (w.store.place n ≡ Some b) ⊎ (w.store.aside n ≡ Some b) → digest_of b ≡ n)
 
--- 4. A day stays as it was made until that very day is let go, and nothing else happens in that step.
+-- 4. A day stays as it was made, byte for byte, until that very day is let go, and nothing else happens in that step.
 abbrev pub DaysStay : Type 0
-DaysStay = EachStep (λ v w. (d : DayName) (ps : List Digest) → v.store.days d ≡ Some ps → (w.store.days d ≡ Some ps) ⊎ (w ≡ record v { store = with_day d None v.store }))
+DaysStay = EachStep (λ v w. (d : DayName) (b : List ℕ) → v.store.days d ≡ Some b → (w.store.days d ≡ Some b) ⊎ (w ≡ record v { store = with_day d None v.store }))
 
 -- No two days of a machine ever have one number: once a day had it, any day of that number is that day, and once it was let go there is none of that number again.
 pub record OneForAll (u v w : World) : Type 0 where
-  pub same : (d : DayName) (ps qs : List Digest) → u.store.days d ≡ Some ps → w.store.days d ≡ Some qs → qs ≡ ps
-  pub never_again : (d : DayName) (ps : List Digest) → u.store.days d ≡ Some ps → v.store.days d ≡ None → w.store.days d ≡ None
+  pub same : (d : DayName) (b c : List ℕ) → u.store.days d ≡ Some b → w.store.days d ≡ Some c → c ≡ b
+  pub never_again : (d : DayName) (b : List ℕ) → u.store.days d ≡ Some b → v.store.days d ≡ None → w.store.days d ≡ None
 
 abbrev pub NumbersAreUsedOnce : Type 0
 NumbersAreUsedOnce = Always (λ u. (v w : World) → Run u v → Run v w → OneForAll u v w)
@@ -69,19 +80,26 @@ NumbersAreUsedOnce = Always (λ u. (v w : World) → Run u v → Run v w → One
 abbrev pub NumbersRise : Type 0
 NumbersRise =
     Always
-    (λ v. (w : World) → Run v w → (d : DayName) (ps : List Digest) → v.store.days d ≡ None → w.store.days d ≡ Some ps →
+    (λ v. (w : World) → Run v w → (d : DayName) (b : List ℕ) → v.store.days d ≡ None → w.store.days d ≡ Some b →
     (v.store.highest d.machine < d.number) ⊎ ((x : Work) × (v.makes d.machine ≡ Some x) × (x.number ≡ Some d.number)))
 
--- A day that is new is what its machine made: it has the number that was raised for it, and just the pieces that were seen to; and the machine makes no day then.
-pub record IsMade (d : DayName) (ps : List Digest) (v w : World) : Type 0 where
+-- A day that is new is what its machine made: it has the number that was raised for it, and just the files that were added to it; and the machine makes no day then.
+pub record IsMade (d : DayName) (b : List ℕ) (v w : World) : Type 0 where
   pub work : Work
   pub makes : v.makes d.machine ≡ Some work
   pub number : work.number ≡ Some d.number
-  pub pieces : ps ≡ work.pieces
+  pub file : b ≡ day_file d work.files
   pub done : w.makes d.machine ≡ None
 
 abbrev pub DaysAreMade : Type 0
-DaysAreMade = EachStep (λ v w. (d : DayName) (ps : List Digest) → v.store.days d ≡ None → w.store.days d ≡ Some ps → IsMade d ps v w)
+DaysAreMade = EachStep (λ v w. (d : DayName) (b : List ℕ) → v.store.days d ≡ None → w.store.days d ≡ Some b → IsMade d b v w)
+
+-- So it lasts: whatever is done after a day has these files, it has just these as long as there is a day of its name, and each of their pieces is there.
+abbrev pub DaysLast : Type 0
+DaysLast =
+    Always
+    (λ v. (w : World) → Run v w → (d : DayName) (es : List Entry) → HasFiles v.store d es → IsSome (w.store.days d) →
+    HasFiles w.store d es × ((n : Digest) → is_in n (names_of es) ≡ true → IsThere w.store n))
 
 -- 5. A sweep spares what days have: whatever is left for the sweeper to put aside was in its place and in no day when it looked, and it has put aside ever since.
 abbrev pub WasInNoDay : List ℕ → World → Digest → Type 0
@@ -98,9 +116,9 @@ pub record Moves (v w : World) : Type 0 where
 abbrev pub AsideIsMoved : Type 0
 AsideIsMoved = EachStep Moves
 
--- the lists have room for all of these names that the sweeper has not listed, and whatever is in its place and nobody has is one of these or listed by it
+-- the lists have room for all of these names that the sweeper has not listed, and whatever is in its place, and neither in a day nor in a file that a machine on the list has added to one, is one of these or listed by it
 pub record HasRoom (ns : List Digest) (w : World) : Type 0 where
-  pub all : (n : Digest) → IsSome (w.store.place n) → w.store.own n ≡ false → (DayHas w n → ⊥) → (MachineHas w n → ⊥) → is_in n ns ≡ true
+  pub all : (n : Digest) → IsSome (w.store.place n) → w.store.own n ≡ false → (DayHas w n → ⊥) → (MachineKeeps w n → ⊥) → is_in n ns ≡ true
   pub others : List Digest
   pub rest : (n : Digest) → is_in n ns ≡ true → w.store.own n ≡ false → is_in n others ≡ true
   pub room : w.store.names + length others ≤ most_names
@@ -119,12 +137,12 @@ pub record Swept (u w : World) : Type 0 where
   pub rests : w.sweeper ≡ rests
   pub nothing_aside : (n : Digest) → w.store.aside n ≡ None
   pub in_place : (n : Digest) → IsSome (w.store.place n) → DayHas w n
-  pub days : (d : DayName) (ps : List Digest) → u.store.days d ≡ Some ps → w.store.days d ≡ Some ps
+  pub days : (d : DayName) (b : List ℕ) → u.store.days d ≡ Some b → w.store.days d ≡ Some b
   pub machines : (i : ℕ) → w.store.machines i ≡ u.store.machines i
   -- what a machine on the list is making becomes a day, and that day is new
-  pub finished : (i : ℕ) (x : Work) → u.store.machines i ≡ true → u.makes i ≡ Some x → (k : ℕ) × (u.store.days (record { machine = i; number = k }) ≡ None) × (w.store.days (record { machine = i; number = k }) ≡ Some x.pieces)
-  -- no day has a piece then that no day had before, nor a machine on the list
-  pub no_other : (d : DayName) (ps : List Digest) → w.store.days d ≡ Some ps → (n : Digest) → is_in n ps ≡ true → DayHas u n ⊎ MachineHas u n
+  pub finished : (i : ℕ) (x : Work) → u.store.machines i ≡ true → u.makes i ≡ Some x → (k : ℕ) × (u.store.days (record { machine = i; number = k }) ≡ None) × (w.store.days (record { machine = i; number = k }) ≡ Some (day_file (record { machine = i; number = k }) x.files))
+  -- no day has a piece then that no day had before, nor a file that a machine on the list had added to one
+  pub no_other : (n : Digest) → DayHas w n → DayHas u n ⊎ MachineKeeps u n
 
 -- It takes room in the lists and two numbers of each machine on the list. The room for the same names is there at its end, too, and so are all further numbers: all can go again and again.
 abbrev pub AllCanGo : Type 0

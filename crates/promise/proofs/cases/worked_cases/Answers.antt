@@ -5,4 +5,4 @@ use Rattle.promise.proofs.CasesZeros.{row_f}
 use Rattle.promise.proofs.cases.worked_cases.Goals as goal
 
 pub returns : goal.returns
-returns c = record { cases = λ p few. All-from_recursion Holds (cases p) (row_a p few, (row_b p few, (row_b_raised p few, (row_c p few, (row_d p few, (row_e p few, (row_f, tt))))))) }
+returns c = record { cases = λ p least few. All-from_recursion Holds (cases p) (row_a p least few, (row_b p least few, (row_b_raised p least few, (row_c p least few, (row_d p least few, (row_e p least few, (row_f, tt))))))) }
