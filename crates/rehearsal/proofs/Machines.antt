@@ -1,7 +1,8 @@
 -- The machines of a script, one after the other.
 -- Assumes nothing.
-use Rattle.std.proofs.Common.{◌≡◌, ◌≢◌, ℕ, zero, suc, ◌<◌, List, [], ◌∷◌, length, ap, sym, ◌∙◌, refl, arith, slice_set, subst, Some, Option, Result}
+use Rattle.std.proofs.Common.{◌≡◌, ◌≢◌, ℕ, zero, suc, ◌<◌, List, [], ◌∷◌, length, ap, sym, ◌∙◌, refl, arith, slice_set, subst, map, vec_items, Some, Option, Result}
 use Rattle.std.proofs.lemmas.Option.{slice_get-map}
+use Rattle.std.specs.Coded.{Coded-set, coded_list, coded_ℕ}
 use Rattle.std.specs.List.{slice_get}
 use Rattle.std.specs.Option.{option_map}
 use Rattle.cutting.specs.declared.refusal.Refusal.{Refusal}
@@ -10,6 +11,7 @@ use Rattle.days.specs.declared.done.Done.{Done}
 use Rattle.days.specs.declared.machine.Machine.{Machine}
 use Rattle.days.specs.Machines.{Work}
 use Rattle.rehearsal.specs.declared.step.Act.{Act}
+use Rattle.rehearsal.specs.declared.world.World.{World}
 use Rattle.rehearsal.specs.Acts.{Acts}
 use Rattle.rehearsal.specs.Numbering.{IsNumbered, machine_numbers}
 
@@ -35,6 +37,10 @@ at_place (suc (suc (suc (suc i)))) n e = absurd cc
 
 pub number_at : (ms : List Machine) (i : ℕ) (m : Machine) → IsNumbered ms → slice_get ms i ≡ Some m → (m.number ≡ i) × (i < 4)
 number_at ms i m h e = at_place i m.number (ap (λ ns. slice_get ns i) (sym h) ∙ slice_get-map (λ (m : Machine). m.number) ms i ∙ ap (option_map (λ (m : Machine). m.number)) e)
+
+-- a world is the same with another proof that its machines have their numbers
+pub same_world : (w : World) (n : IsNumbered (vec_items w.machines)) → record { heap = w.heap; store = w.store; machines = w.machines; sweeper = w.sweeper; numbered = n } ≡ w
+same_world w n = λ k. record { heap = w.heap; store = w.store; machines = w.machines; sweeper = w.sweeper; numbered = Coded-set (coded_list coded_ℕ) (map (λ (m : Machine). m.number) (vec_items w.machines)) machine_numbers n w.numbered k }
 
 -- what a machine does, under equal values
 pub acts_equal : (act : Act) (i n : ℕ) (old x new y : Option Work) (s t : Memory) (a : Result Done Refusal) → n ≡ i → x ≡ old → y ≡ new → Acts act n x s a y t → Acts act i old s a new t

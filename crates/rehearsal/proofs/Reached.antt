@@ -1,6 +1,6 @@
 -- What a script has led to is reached by steps of the system, and so keeps the promise.
 -- Assumes nothing.
-use Rattle.std.proofs.Common.{◌≡◌, ℕ, ◌⊎◌, inl, inr, ◌∙◌, Bool, true, false, List, Some, None, Option, refl, sym, subst, arith}
+use Rattle.std.proofs.Common.{◌≡◌, ℕ, ◌⊎◌, inl, inr, ◌∙◌, ◌||◌, Bool, true, false, List, Some, None, Option, Result, refl, sym, subst, arith}
 use Rattle.std.proofs.lemmas.Grind.{common_steps, merely, not_there}
 use mathlib.Core.Logic.{∥∥₁_map}
 use Rattle.digest.specs.declared.value.Digest.{Digest}
@@ -9,29 +9,38 @@ use Rattle.store.specs.Memories.{state_of}
 use Rattle.store.specs.State.{State, same_name}
 use Rattle.store.proofs.Equality.{names_decide}
 use Rattle.sweeper.specs.Pieces.{IsRight, IsThere}
-use Rattle.promise.specs.Runs.{Run, Within}
+use Rattle.promise.specs.Runs.{Run}
 use Rattle.promise.specs.Runs as runs
 use Rattle.promise.specs.System as system
 use Rattle.promise.specs.System.{AreMachines, start}
 use Rattle.promise.proofs.Kept.{days_are_whole, seen_is_there}
+use Rattle.rehearsal.specs.declared.answer.Answer.{Answer}
+use Rattle.rehearsal.specs.declared.line.LineFault.{LineFault}
 use Rattle.rehearsal.specs.declared.world.World.{World}
 use Rattle.rehearsal.specs.Numbering.{machine_numbers}
-use Rattle.rehearsal.specs.Systems.{IsReached, LosesNothing, system_of}
+use Rattle.rehearsal.specs.Systems.{IsReached, IsSound, LosesNothing, RunsOrDamages, is_damage, system_of}
 use Rattle.rehearsal.specs.Worlds.{IsNew}
 
-pub new_is_reached : (w : World) → IsNew w → ∥ IsReached w ∥₁
-new_is_reached w (s, m, r) =
+pub new_is_sound : (w : World) → IsNew w → ∥ IsSound false w ∥₁
+new_is_sound w (s, m, r) =
     let is : start machine_numbers ≡ system_of w = λ j. record { store = sym s j; makes = λ i. sym (m i) j; sweeper = sym r j } in
-    merely (subst (λ (v : system.World). Run (start machine_numbers) v) is runs.Run.still)
+    merely (λ e. subst (λ (v : system.World). Run (start machine_numbers) v) is runs.Run.still)
 
-run_on : {n : ℕ} {u v w : system.World} → Run u v → Within n v w → Run u w
-run_on r runs.Within.still = r
-run_on r (runs.Within.onward k x) = runs.Run.onward (run_on r k) x
+run_on : {u v w : system.World} → Run u v → Run v w → Run u w
+run_on r runs.Run.still = r
+run_on r (runs.Run.onward k x) = runs.Run.onward (run_on r k) x
 
-pub still_reached : (w v : World) → ∥ IsReached w ∥₁ → Within 2 (system_of w) (system_of v) → ∥ IsReached v ∥₁
-still_reached w v r k = ∥∥₁_map r (λ x. run_on x k)
+-- what was not damaged is reached still, where a line does not damage it
+pub still_sound : (d : Bool) (r : Result (Option Answer) LineFault) (w v : World) → ∥ IsSound d w ∥₁ → RunsOrDamages r w v → ∥ IsSound (d || is_damage r) v ∥₁
+still_sound d r w v h k = ∥∥₁_map h (λ x e. on d (is_damage r) x k e)
+  where
+    on : (d b : Bool) → IsSound d w → (b ≡ true) ⊎ Run (system_of w) (system_of v) → (d || b) ≡ false → IsReached v
+    on true b x k e = absurd cc
+    on false true x k e = absurd cc
+    on false false x (inl e) f = absurd cc
+    on false false x (inr k) f = run_on (x refl) k
 
-are_machines : AreMachines machine_numbers
+pub are_machines : AreMachines machine_numbers
 are_machines i h = grind (arith, common_steps, h)
 
 -- whether bytes are right can be told
@@ -60,9 +69,8 @@ there s n h = go (right_or_not n (s.place n)) (right_or_not n (s.aside n))
         no (inl x) = p x
         no (inr x) = a x
 
-pub loses_nothing : (w v : World) → ∥ IsReached w ∥₁ → Within 2 (system_of w) (system_of v) → LosesNothing v
-loses_nothing w v r k n =
-    let reached = still_reached w v r k in (
-      λ h. there (state_of v.store) n (λ no. not_there reached (λ x. no (days_are_whole machine_numbers are_machines (system_of v) x n h))),
-      λ h. there (state_of v.store) n (λ no. not_there reached (λ x. no (seen_is_there machine_numbers are_machines (system_of v) x n h))),
-    )
+pub loses_nothing : (d : Bool) (r : Result (Option Answer) LineFault) (w v : World) → ∥ IsSound d w ∥₁ → RunsOrDamages r w v → (d || is_damage r) ≡ false → LosesNothing v
+loses_nothing d r w v h k e n = let sound = still_sound d r w v h k in (
+  λ h. there (state_of v.store) n (λ no. not_there sound (λ x. no (days_are_whole machine_numbers are_machines (system_of v) (x e) n h))),
+  λ h. there (state_of v.store) n (λ no. not_there sound (λ x. no (seen_is_there machine_numbers are_machines (system_of v) (x e) n h))),
+)

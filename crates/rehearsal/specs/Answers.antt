@@ -19,9 +19,9 @@ use Rattle.rehearsal.specs.declared.world.World.{World}
 use Rattle.rehearsal.specs.Listings.{Lists}
 use Rattle.rehearsal.specs.Shows.{Shows}
 use Rattle.rehearsal.specs.Steps.{Passes, StepRead}
-use Rattle.rehearsal.specs.Worlds.{ActsIn, LetsGo, Parts, Stops, Sweeps}
+use Rattle.rehearsal.specs.Worlds.{ActsIn, CutsDay, FlipsDay, FlipsPiece, HasBack, LetsGo, Parts, ReadsDay, Stops, Sweeps}
 
--- what a step answers, and what it leaves of the world w: the digest of bytes, or the list of their pieces; what a machine or the sweeper has done; that a day is let go, a machine gone, the sweeper stopped; what is where; or why that is refused
+-- what a step answers, and what it leaves of the world w: the digest of bytes, or the list of their pieces; what a machine or the sweeper has done; that a day is let go, a machine gone, the sweeper stopped, something damaged; the bytes of a file; what is where; or why that is refused
 abbrev pub Plays : Step → World → Result Answer Refusal → World → Type 0
 Plays (step.Digest m) w (Ok (answer.Digest d)) v = (d ≡ digest_of (bytes_of m)) × (v ≡ w)
 Plays (step.Cut m) w (Ok (answer.Pieces x)) v = Lists (bytes_of m) (Ok x) × (v ≡ w)
@@ -30,6 +30,16 @@ Plays (step.Machine i act) w (Ok (answer.Done d)) v = ActsIn act i w (Ok d) v
 Plays (step.Machine i act) w (Err r) v = ActsIn act i w (Err r) v
 Plays (step.LetGo i k) w (Ok answer.LetGo) v = LetsGo i k w (Ok tt) v
 Plays (step.LetGo i k) w (Err r) v = LetsGo i k w (Err r) v
+Plays (step.Back i k path) w (Ok (answer.File x)) v = HasBack i k (vec_items path) w (Ok x) v
+Plays (step.Back i k path) w (Err r) v = HasBack i k (vec_items path) w (Err r) v
+Plays (step.Bytes i k) w (Ok (answer.File x)) v = ReadsDay i k w (Ok x) v
+Plays (step.Bytes i k) w (Err r) v = ReadsDay i k w (Err r) v
+Plays (step.FlipPiece spot at m) w (Ok answer.Flipped) v = FlipsPiece spot at (digest_of (bytes_of m)) w (Ok tt) v
+Plays (step.FlipPiece spot at m) w (Err r) v = FlipsPiece spot at (digest_of (bytes_of m)) w (Err r) v
+Plays (step.FlipDay i k at) w (Ok answer.Flipped) v = FlipsDay i k at w (Ok tt) v
+Plays (step.FlipDay i k at) w (Err r) v = FlipsDay i k at w (Err r) v
+Plays (step.CutDay i k n) w (Ok answer.Cut) v = CutsDay i k n w (Ok tt) v
+Plays (step.CutDay i k n) w (Err r) v = CutsDay i k n w (Err r) v
 Plays (step.Part i) w (Ok answer.Parted) v = Parts i w (Ok tt) v
 Plays (step.Part i) w (Err r) v = Parts i w (Err r) v
 Plays (step.Sweeper m) w (Ok (answer.Swept d)) v = Sweeps m w (Ok d) v

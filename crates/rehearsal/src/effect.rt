@@ -33,6 +33,22 @@ impl Step {
                 world.let_go(machine, number)?;
                 Ok(Answer::LetGo)
             }
+            Step::Back(machine, number, path) => {
+                Ok(Answer::File(world.back(machine, number, &path)?))
+            }
+            Step::Bytes(machine, number) => Ok(Answer::File(world.bytes(machine, number)?)),
+            Step::FlipPiece(spot, at, message) => {
+                world.flip(spot, at, message.digest())?;
+                Ok(Answer::Flipped)
+            }
+            Step::FlipDay(machine, number, at) => {
+                world.flip_day(machine, number, at)?;
+                Ok(Answer::Flipped)
+            }
+            Step::CutDay(machine, number, length) => {
+                world.cut_day(machine, number, length)?;
+                Ok(Answer::Cut)
+            }
             Step::Part(machine) => {
                 world.part(machine)?;
                 Ok(Answer::Parted)

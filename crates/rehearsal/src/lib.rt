@@ -25,7 +25,7 @@ pub use name::StepName;
 pub use pending::{Answered, Pending};
 pub use rehearsal::Rehearsal;
 pub use script::{Fault, Message};
-pub use shown::{Shown, ShownDay, ShownMachine, ShownSweeper};
+pub use shown::{KeptDay, Shown, ShownDay, ShownMachine, ShownSweeper};
 pub use step::{Act, Move, Step};
 pub use stream::play;
 pub use unplayed::Unplayed;

@@ -1,8 +1,7 @@
 // A line of the script, and what is written for it.
 ghost use Rattle.std.specs.Prelude.{Some, IfErr};
 ghost use Rattle.rehearsal.specs.Answers.{Answers, LinePlayed};
-ghost use Rattle.promise.specs.Runs.{Within};
-ghost use Rattle.rehearsal.specs.Systems.{LeavesAll, system_of};
+ghost use Rattle.rehearsal.specs.Systems.{LeavesAll, RunsOrDamages};
 ghost use Rattle.rehearsal.specs.Texts.{line_fault_text};
 
 use crate::answer::Answer;
@@ -40,12 +39,11 @@ fn play_line(heap: Global, world: &mut World, line: &[u8]) -> Result<Option<Answ
     }
 }
 
-// The answer to a line, which is given without its end. What it does to the world is a step of the system, or two, or none.
-#[tactic(auto, using(crate::proofs::InSystem::line_within, crate::proofs::Refused::line_leaves_all))]
+// The answer to a line, which is given without its end. What it does to the world are steps of the system, if it damages nothing.
 pub fn answer_line(heap: Global, world: &mut World, number: u64, line: &[u8]) -> LineAnswer
     ensures answer { Answers number line.now world.old result world.new }
-    ensures unchanged { IfErr result (λ e. LeavesAll e.why world.old world.new) }
-    ensures steps { Within 2 (system_of world.old) (system_of world.new) }
+    ensures unchanged { IfErr result (λ e. LeavesAll line.now e.why world.old world.new) }
+    ensures steps { RunsOrDamages result world.old world.new }
 {
     play_line(heap, world, line).map_err(|why| LineFault { number, why })
 }

@@ -1,6 +1,6 @@
 // The names of the steps, and how their lines are written.
 ghost use Rattle.std.specs.Prelude.{◌≡◌, MatchOption};
-ghost use Rattle.rehearsal.specs.Names.{NoName, SweeperCalled, Wrong, line_text, name_text};
+ghost use Rattle.rehearsal.specs.Names.{DamageCalled, DayCalled, NoName, SweeperCalled, Wrong, line_text, name_text};
 
 use script::{Fault, is_word};
 
@@ -10,10 +10,17 @@ pub enum StepName {
     Cut,
     Begin,
     See,
+    File,
     Raise,
     Name,
     Break,
     Go,
+    Back,
+    Bytes,
+    FlipPlace,
+    FlipAside,
+    FlipDay,
+    CutDay,
     Part,
     Look,
     Aside,
@@ -41,6 +48,9 @@ impl StepName {
         if is_word(word, b"see") {
             return Some(StepName::See);
         }
+        if is_word(word, b"file") {
+            return Some(StepName::File);
+        }
         if is_word(word, b"raise") {
             return Some(StepName::Raise);
         }
@@ -50,14 +60,46 @@ impl StepName {
         if is_word(word, b"break") {
             return Some(StepName::Break);
         }
-        if is_word(word, b"go") {
-            return Some(StepName::Go);
-        }
         if is_word(word, b"part") {
             return Some(StepName::Part);
         }
         if is_word(word, b"show") {
             return Some(StepName::Show);
+        }
+        StepName::of_day(word)
+    }
+
+    // The step for a day of the store that is called so, or a later one.
+    fn of_day(word: &[u8]) -> Option<StepName>
+        ensures { DayCalled word.now result }
+    {
+        if is_word(word, b"go") {
+            return Some(StepName::Go);
+        }
+        if is_word(word, b"back") {
+            return Some(StepName::Back);
+        }
+        if is_word(word, b"bytes") {
+            return Some(StepName::Bytes);
+        }
+        StepName::of_damage(word)
+    }
+
+    // The damage that is called so, or a step of the sweeper.
+    fn of_damage(word: &[u8]) -> Option<StepName>
+        ensures { DamageCalled word.now result }
+    {
+        if is_word(word, b"flip-place") {
+            return Some(StepName::FlipPlace);
+        }
+        if is_word(word, b"flip-aside") {
+            return Some(StepName::FlipAside);
+        }
+        if is_word(word, b"flip-day") {
+            return Some(StepName::FlipDay);
+        }
+        if is_word(word, b"cut-day") {
+            return Some(StepName::CutDay);
         }
         StepName::of_sweeper(word)
     }
@@ -96,10 +138,17 @@ impl StepName {
             StepName::Cut => "cut BYTES",
             StepName::Begin => "begin M",
             StepName::See => "see M BYTES",
+            StepName::File => "file M PATH BYTES",
             StepName::Raise => "raise M",
             StepName::Name => "name M",
             StepName::Break => "break M",
             StepName::Go => "go M N",
+            StepName::Back => "back M N PATH",
+            StepName::Bytes => "bytes M N",
+            StepName::FlipPlace => "flip-place AT BYTES",
+            StepName::FlipAside => "flip-aside AT BYTES",
+            StepName::FlipDay => "flip-day M N AT",
+            StepName::CutDay => "cut-day M N LENGTH",
             StepName::Part => "part M",
             StepName::Look => "look",
             StepName::Aside => "aside",

@@ -1,17 +1,24 @@
 // What `show` answers: what is where.
 ghost use Rattle.std.specs.Prelude.{Some};
 ghost use Rattle.std.specs.Fmt.{WritesOnOk};
-ghost use Rattle.rehearsal.specs.Shows.{lists_text, machine_text, machines_text, pieces_text, shown_text, sweeper_text, turns_text};
+ghost use Rattle.rehearsal.specs.Shows.{kept_text, lists_text, machine_text, machines_text, pieces_text, shown_text, sweeper_text, turns_text};
 
 use digest::Digest;
 use std::fmt;
-use store::{Contents, write_each};
+use store::{DayName, Listing, Lying, write_each};
 
 // A day that a machine makes.
 #[derive(Drop)]
 pub struct ShownDay {
     pub number: Option<u32>,
     pub pieces: Vec<Digest>,
+}
+
+// A day of the store: the names of its pieces, or none where what lies under its name is not of the form.
+#[derive(Drop)]
+pub struct KeptDay {
+    pub name: DayName,
+    pub pieces: Option<Vec<Digest>>,
 }
 
 // A machine, its highest number, whether it is on the list, and what it makes.
@@ -38,9 +45,26 @@ pub enum ShownSweeper {
 
 #[derive(Drop)]
 pub struct Shown {
-    pub contents: Contents,
+    pub place: Vec<Lying>,
+    pub aside: Vec<Lying>,
+    pub listed: Vec<Listing>,
+    // the names in the sweeper's list
+    pub own: Vec<Digest>,
+    pub days: Vec<KeptDay>,
     pub machines: Vec<ShownMachine>,
     pub sweeper: ShownSweeper,
+}
+
+impl fmt::Display for KeptDay {
+    ghost output = { λ d. Some (kept_text d) };
+
+    fn fmt<W: fmt::Write>(&self, f: &mut fmt::Formatter<W>) -> fmt::Result {
+        write!(f, "{} {}", self.name.machine, self.name.number)?;
+        match &self.pieces {
+            Some(pieces) => write_each(" ", pieces, "", f),
+            None => write!(f, " damaged"),
+        }
+    }
 }
 
 impl fmt::Display for ShownMachine {
@@ -97,20 +121,20 @@ fn write_turns<W: fmt::Write>(
 }
 
 // A line for each piece.
-fn write_pieces<W: fmt::Write>(contents: &Contents, f: &mut fmt::Formatter<W>) -> fmt::Result
-    ensures { WritesOnOk W.Write.write_str_gives f.old result (pieces_text contents.now) f.new }
+fn write_pieces<W: fmt::Write>(shown: &Shown, f: &mut fmt::Formatter<W>) -> fmt::Result
+    ensures { WritesOnOk W.Write.write_str_gives f.old result (pieces_text shown.now) f.new }
 {
-    write_each("place ", &contents.place, "\n", f)?;
-    write_each("aside ", &contents.aside, "\n", f)
+    write_each("place ", &shown.place, "\n", f)?;
+    write_each("aside ", &shown.aside, "\n", f)
 }
 
 // A line for each listed name and each day.
-fn write_lists<W: fmt::Write>(contents: &Contents, f: &mut fmt::Formatter<W>) -> fmt::Result
-    ensures { WritesOnOk W.Write.write_str_gives f.old result (lists_text contents.now) f.new }
+fn write_lists<W: fmt::Write>(shown: &Shown, f: &mut fmt::Formatter<W>) -> fmt::Result
+    ensures { WritesOnOk W.Write.write_str_gives f.old result (lists_text shown.now) f.new }
 {
-    write_each("listed ", &contents.listed, "\n", f)?;
-    write_each("listed sweeper ", &contents.own, "\n", f)?;
-    write_each("day ", &contents.days, "\n", f)
+    write_each("listed ", &shown.listed, "\n", f)?;
+    write_each("listed sweeper ", &shown.own, "\n", f)?;
+    write_each("day ", &shown.days, "\n", f)
 }
 
 // A line for each machine, the last without a newline.
@@ -131,8 +155,8 @@ impl fmt::Display for Shown {
     ghost output = { λ s. Some (shown_text s) };
 
     fn fmt<W: fmt::Write>(&self, f: &mut fmt::Formatter<W>) -> fmt::Result {
-        write_pieces(&self.contents, f)?;
-        write_lists(&self.contents, f)?;
+        write_pieces(self, f)?;
+        write_lists(self, f)?;
         write_machines(&self.machines, f)?;
         write!(f, "\n{}", self.sweeper)
     }

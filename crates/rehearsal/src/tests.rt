@@ -18,6 +18,14 @@ fn played(heap: Global, rehearsal: &mut Rehearsal, line: &[u8]) -> Result<String
     Ok(answer.to_string(heap)?)
 }
 
+// What is written for a line that is not played.
+fn refused(heap: Global, rehearsal: &mut Rehearsal, line: &[u8]) -> Result<String, Fail> {
+    let Err(fault) = rehearsal.answer(heap, 1, line) else {
+        return Err(Fail::new("a line is played"));
+    };
+    Ok(fault.to_string(heap)?)
+}
+
 #[test]
 fn bytes_have_a_digest(rt: HostRuntime) -> Result<(), Fail> {
     let mut rehearsal = new_rehearsal(rt.alloc())?;
@@ -66,9 +74,9 @@ fn a_machine_makes_a_day(rt: HostRuntime) -> Result<(), Fail> {
         "begin"
     );
     assert!(rt;
-        played(heap, &mut rehearsal, b"see 3")?.as_str()
-            == "written e3b0c44298fc1c149afbf4c8996fb92427ae41e4649b934ca495991b7852b855",
-        "see to a piece of no bytes"
+        played(heap, &mut rehearsal, b"see 3 61")?.as_str()
+            == "written ca978112ca1bbdcafac231b39a23dc4da786eff8147c4e72b9807785afee48bb",
+        "see to a piece"
     );
     assert!(rt;
         played(heap, &mut rehearsal, b"raise 3")?.as_str() == "raised 1",
@@ -80,7 +88,7 @@ fn a_machine_makes_a_day(rt: HostRuntime) -> Result<(), Fail> {
     );
     assert!(rt;
         played(heap, &mut rehearsal, b"show")?.as_str()
-            == "place e3b0c44298fc1c149afbf4c8996fb92427ae41e4649b934ca495991b7852b855 0\nlisted 3 e3b0c44298fc1c149afbf4c8996fb92427ae41e4649b934ca495991b7852b855\nday 3 1 e3b0c44298fc1c149afbf4c8996fb92427ae41e4649b934ca495991b7852b855\nmachine 0 0 none\nmachine 1 0 none\nmachine 2 0 none\nmachine 3 1 none\nsweeper rests",
+            == "place ca978112ca1bbdcafac231b39a23dc4da786eff8147c4e72b9807785afee48bb 1\nlisted 3 ca978112ca1bbdcafac231b39a23dc4da786eff8147c4e72b9807785afee48bb\nday 3 1 ca978112ca1bbdcafac231b39a23dc4da786eff8147c4e72b9807785afee48bb\nmachine 0 0 none\nmachine 1 0 none\nmachine 2 0 none\nmachine 3 1 none\nsweeper rests",
         "show"
     );
     assert!(rt;
@@ -101,14 +109,14 @@ fn the_sweeper_sweeps(rt: HostRuntime) -> Result<(), Fail> {
     let mut rehearsal = new_rehearsal(heap)?;
     for line in [
         b"begin 3".as_slice(),
-        b"see 3",
+        b"see 3 61",
         b"part 0",
         b"part 1",
         b"part 2",
     ] {
         played(heap, &mut rehearsal, line)?;
     }
-    let name = "e3b0c44298fc1c149afbf4c8996fb92427ae41e4649b934ca495991b7852b855";
+    let name = "ca978112ca1bbdcafac231b39a23dc4da786eff8147c4e72b9807785afee48bb";
     assert!(rt;
         played(heap, &mut rehearsal, b"look")?.as_str() == "to put aside 1",
         "look"
@@ -143,8 +151,90 @@ fn the_sweeper_sweeps(rt: HostRuntime) -> Result<(), Fail> {
     );
     assert!(rt;
         played(heap, &mut rehearsal, b"show")?.as_str()
-            == "place e3b0c44298fc1c149afbf4c8996fb92427ae41e4649b934ca495991b7852b855 0\nlisted 3 e3b0c44298fc1c149afbf4c8996fb92427ae41e4649b934ca495991b7852b855\nlisted sweeper e3b0c44298fc1c149afbf4c8996fb92427ae41e4649b934ca495991b7852b855\nday 3 1 e3b0c44298fc1c149afbf4c8996fb92427ae41e4649b934ca495991b7852b855\nmachine 0 0 parted\nmachine 1 0 parted\nmachine 2 0 parted\nmachine 3 1 none\nsweeper rests",
+            == "place ca978112ca1bbdcafac231b39a23dc4da786eff8147c4e72b9807785afee48bb 1\nlisted 3 ca978112ca1bbdcafac231b39a23dc4da786eff8147c4e72b9807785afee48bb\nlisted sweeper ca978112ca1bbdcafac231b39a23dc4da786eff8147c4e72b9807785afee48bb\nday 3 1 ca978112ca1bbdcafac231b39a23dc4da786eff8147c4e72b9807785afee48bb\nmachine 0 0 parted\nmachine 1 0 parted\nmachine 2 0 parted\nmachine 3 1 none\nsweeper rests",
         "show"
+    );
+    Ok(())
+}
+
+#[test]
+fn files_are_had_back(rt: HostRuntime) -> Result<(), Fail> {
+    let heap = rt.alloc();
+    let mut rehearsal = new_rehearsal(heap)?;
+    played(heap, &mut rehearsal, b"begin 3")?;
+    assert!(rt;
+        played(heap, &mut rehearsal, b"file 3 c 61")?.as_str() == "added 1, written 1",
+        "file"
+    );
+    assert!(rt;
+        played(heap, &mut rehearsal, b"file 3 d")?.as_str() == "added 0, written 0",
+        "a file of no bytes"
+    );
+    played(heap, &mut rehearsal, b"raise 3")?;
+    played(heap, &mut rehearsal, b"name 3")?;
+    assert!(rt;
+        played(heap, &mut rehearsal, b"back 3 1 c")?.as_str() == "1 61",
+        "back"
+    );
+    assert!(rt;
+        played(heap, &mut rehearsal, b"back 3 1 d")?.as_str() == "0",
+        "no bytes"
+    );
+    assert!(rt;
+        played(heap, &mut rehearsal, b"bytes 3 1")?.as_str()
+            == "88 44030000000100020163000000010001ca978112ca1bbdcafac231b39a23dc4da786eff8147c4e72b9807785afee48bb0164000000000000f5e6903b4cfa39e7a5321da1efc26041c68e965e9cca6622eb776cf2802fc016",
+        "bytes"
+    );
+    Ok(())
+}
+
+#[test]
+fn damage_is_seen(rt: HostRuntime) -> Result<(), Fail> {
+    let heap = rt.alloc();
+    let mut rehearsal = new_rehearsal(heap)?;
+    for line in [
+        b"begin 3".as_slice(),
+        b"see 3 61",
+        b"raise 3",
+        b"name 3",
+        b"flip-day 3 1 0",
+    ] {
+        played(heap, &mut rehearsal, line)?;
+    }
+    assert!(rt;
+        refused(heap, &mut rehearsal, b"back 3 1 0001")?.as_str()
+            == "line 1: refused by 2: a day is damaged or incomplete",
+        "a day that is damaged"
+    );
+    assert!(rt;
+        played(heap, &mut rehearsal, b"show")?.as_str()
+            == "place ca978112ca1bbdcafac231b39a23dc4da786eff8147c4e72b9807785afee48bb 1\nlisted 3 ca978112ca1bbdcafac231b39a23dc4da786eff8147c4e72b9807785afee48bb\nday 3 1 damaged\nmachine 0 0 none\nmachine 1 0 none\nmachine 2 0 none\nmachine 3 1 none\nsweeper rests",
+        "show"
+    );
+    assert!(rt;
+        played(heap, &mut rehearsal, b"flip-day 3 1 0")?.as_str() == "flipped",
+        "flip-day"
+    );
+    assert!(rt;
+        played(heap, &mut rehearsal, b"back 3 1 0001")?.as_str() == "1 61",
+        "a day that is mended"
+    );
+    assert!(rt;
+        played(heap, &mut rehearsal, b"flip-place 0 61")?.as_str() == "flipped",
+        "flip-place"
+    );
+    assert!(rt;
+        refused(heap, &mut rehearsal, b"flip-aside 0 61")?.as_str()
+            == "line 1: refused by 1: there is no such machine, day or path",
+        "flip-aside"
+    );
+    assert!(rt;
+        played(heap, &mut rehearsal, b"cut-day 3 1 1")?.as_str() == "cut",
+        "cut-day"
+    );
+    assert!(rt;
+        played(heap, &mut rehearsal, b"bytes 3 1")?.as_str() == "1 44",
+        "what is left"
     );
     Ok(())
 }

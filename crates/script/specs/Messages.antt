@@ -48,6 +48,11 @@ pub record TwoWords (l : List ℕ) : Type 0 where
   pub two : 0 < length (second l)
   pub alone : third l ≡ []
 
+-- three words
+pub record ThreeWords (l : List ℕ) : Type 0 where
+  pub one : 0 < length (first l)
+  pub others : TwoWords (rest l)
+
 -- this word, and two more
 pub record Form (name l : List ℕ) : Type 0 where
   pub named : first l ≡ name

@@ -33,6 +33,6 @@ decimal_value w = fold (λ n c. n * 10 + (c - 48)) 0 w
 abbrev pub most_number : ℕ
 most_number = 1073741824
 
--- nor is the number of a machine or of a day
+-- nor is any other number
 abbrev pub most_in_store : ℕ
 most_in_store = 4294967295

@@ -15,4 +15,4 @@ pub use fault::Fault;
 pub use message::Message;
 pub use numerals::FromWord;
 pub use quote::quoted;
-pub use scan::{is_word, next_word, one_word, two_words};
+pub use scan::{is_word, next_word, one_word, three_words, two_words};

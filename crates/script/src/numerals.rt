@@ -19,7 +19,7 @@ pub trait FromWord: Sized + Drop {
 // No seed and no count is larger.
 const MOST_NUMBER: u64 = 1_073_741_824;
 
-// Nor is the number of a machine or of a day.
+// Nor is any other number.
 const MOST_IN_STORE: u64 = 4_294_967_295;
 
 // The number that a hexadecimal digit stands for; capitals are allowed.
@@ -109,7 +109,7 @@ impl FromWord for u64 {
     }
 }
 
-// The number of a machine or of a day.
+// Any other number.
 impl FromWord for u32 {
     ghost reads = { NumberRead most_in_store };
 

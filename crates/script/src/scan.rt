@@ -1,7 +1,7 @@
 // The words of a line: runs of bytes that are neither space nor tab.
 ghost use Rattle.std.specs.Prelude.{◌≡◌, ◌<◌, [], length, Decides, MatchOption};
 ghost use Rattle.script.specs.Lines.{blank, first, rest};
-ghost use Rattle.script.specs.Messages.{second, SoleWord, TwoWords};
+ghost use Rattle.script.specs.Messages.{second, third, SoleWord, ThreeWords, TwoWords};
 
 fn is_blank(c: u8) -> bool
     ensures { result ≡ blank c }
@@ -40,6 +40,15 @@ pub fn two_words(line: &[u8]) -> Option<(&[u8], &[u8])>
         return None;
     }
     Some((one, two))
+}
+
+// The words of a line that has just three.
+pub fn three_words(line: &[u8]) -> Option<(&[u8], &[u8], &[u8])>
+    ensures { MatchOption result (ThreeWords line.now → ⊥) (λ p. ThreeWords line.now × (p.0.now ≡ first line.now) × (p.1.now ≡ second line.now) × (p.2.now ≡ third line.now)) }
+{
+    let (one, others) = next_word(line)?;
+    let (two, three) = two_words(others)?;
+    Some((one, two, three))
 }
 
 // Is a word this one?

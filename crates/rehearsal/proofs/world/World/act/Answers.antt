@@ -1,9 +1,11 @@
-use Rattle.std.proofs.Common.{◌≡◌, ap, inr, refl, sym, Some, ◌∙◌}
+use Rattle.std.proofs.Common.{◌≡◌, ap, inl, inr, refl, arith, length, sym, Some, ◌∙◌}
 use Rattle.std.proofs.lemmas.Option.{slice_get-get_or}
+use Rattle.std.proofs.lemmas.Grind.{common_steps}
+use Rattle.std.proofs.lemmas.List.{length-map}
 use Rattle.std.specs.List.{slice_get}
 use Rattle.std.specs.Option.{option_and_then}
 use Rattle.days.specs.Machines.{makes}
-use Rattle.rehearsal.proofs.Machines.{acts_equal, get-set_same, get-set_other, number_at}
+use Rattle.rehearsal.proofs.Machines.{same_world, acts_equal, get-set_same, get-set_other, number_at}
 use Rattle.rehearsal.proofs.world.World.act.Goals as goal
 
 pub returns : goal.returns
@@ -23,3 +25,13 @@ returns c =
         refl,
       ),
     )
+
+pub returns-in_default : goal.returns-in_default
+returns-in_default c = inr (
+  c.in_ok-check.ensures,
+  inl (
+    grind (arith, common_steps, ap length c.args.self.now.numbered, length-map c.args.self.now.machines.items (λ m. m.number), c.in_default.ensures.variant),
+    refl,
+    same_world c.args.self.now _,
+  ),
+)
