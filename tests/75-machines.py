@@ -4,19 +4,20 @@ written here by hand, from docs/REHEARSE.md and docs/STORE.md."""
 
 from common import USAGE, main, played, sha256, sha256_repeat
 
-# The names of the pieces of no bytes, of the bytes 61, 62 and 63, and of two long
-# ones. In the order of their digits: C, B, LONG, A, ZEROS, NO.
-NO = "e3b0c44298fc1c149afbf4c8996fb92427ae41e4649b934ca495991b7852b855"
+# The names of the pieces of the bytes 61, 62, 63 and 74, and of two long ones. In the
+# order of their digits: C, B, LONG, A, ZEROS, T.
 A = "ca978112ca1bbdcafac231b39a23dc4da786eff8147c4e72b9807785afee48bb"
 B = "3e23e8160039594a33894f6564e1b1348bbd7a0088d42c4acb73eeaed59c009d"
 C = "2e7d2c03a9507ae265ecf5b5356885a53393a2029d241394997265a1a25aefc6"
+T = "e3b98a4da31a127d4bde6e43033f66ba274cab0eb7eb1c70ec41402bf6273dd8"
 ZEROS = sha256_repeat(0, 65_536)
 LONG = sha256_repeat(0x61, 65_536)
-assert [NO, A, B, C] == [sha256(piece) for piece in (b"", b"a", b"b", b"c")]
-assert sorted([NO, A, B, C, ZEROS, LONG]) == [C, B, LONG, A, ZEROS, NO]
+assert [A, B, C, T] == [sha256(piece) for piece in (b"a", b"b", b"c", b"t")]
+assert sorted([A, B, C, T, ZEROS, LONG]) == [C, B, LONG, A, ZEROS, T]
 
 # In an answer, `line: ` stands for `line N: ` with the line's number.
 ABSENT = "line: refused by 1: there is no such machine, day or path"
+EMPTY = "line: refused by 1: a piece has at least one byte"
 TOO_LONG = "line: refused by 1: a piece has at most 65536 bytes"
 MAKES_ONE = "line: refused by 3: the machine already makes a day"
 MAKES_NONE = "line: refused by 3: the machine makes no day"
@@ -123,21 +124,18 @@ SCRIPTS = [
         ("begin 3", "begun"),
         ("raise 3", "raised 4"),
     ],
-    # The piece of no bytes is one like others.
+    # There is no piece of no bytes. It is refused before all else.
     [
+        ("see 1", EMPTY),
         ("begin 1", "begun"),
-        ("see 1", "written " + NO),
-        ("see 1 repeat 61 0", "found " + NO),
-        ("see 1 random 7 0", "found " + NO),
-        ("see 1 \t\r", "found " + NO),
-        (
-            "show",
-            f"place {NO} 0",
-            f"listed 1 {NO}",
-            NOTHING[0],
-            f"machine 1 0 makes {NO} {NO} {NO} {NO}",
-            *NOTHING[2:],
-        ),
+        ("see 1", EMPTY),
+        ("see 1 repeat 61 0", EMPTY),
+        ("see 1 random 7 0", EMPTY),
+        ("see 1 \t\r", EMPTY),
+        ("see 4", EMPTY),
+        ("show", NOTHING[0], "machine 1 0 makes", *NOTHING[2:]),
+        ("raise 1", "raised 1"),
+        ("see 1", EMPTY),
     ],
     # The same piece several times in a day stands in it several times.
     [
@@ -195,7 +193,7 @@ SCRIPTS = [
     # machines and then of names, days in that of machines and then of numbers.
     [
         ("begin 3", "begun"),
-        ("see 3", "written " + NO),
+        ("see 3 74", "written " + T),
         ("see 3 61", "written " + A),
         ("see 3 63", "written " + C),
         ("begin 1", "begun"),
@@ -215,7 +213,7 @@ SCRIPTS = [
         ("name 0", "named 1"),
         ("begin 3", "begun"),
         ("see 3 61", "found " + A),
-        ("see 3", "found " + NO),
+        ("see 3 74", "found " + T),
         (
             "show",
             f"place {C} 1",
@@ -223,20 +221,20 @@ SCRIPTS = [
             f"place {LONG} 65536",
             f"place {A} 1",
             f"place {ZEROS} 65536",
-            f"place {NO} 0",
+            f"place {T} 1",
             f"listed 0 {ZEROS}",
             f"listed 1 {B}",
             f"listed 1 {LONG}",
             f"listed 3 {C}",
             f"listed 3 {A}",
-            f"listed 3 {NO}",
+            f"listed 3 {T}",
             f"day 0 1 {ZEROS}",
-            f"day 3 1 {NO} {A} {C}",
+            f"day 3 1 {T} {A} {C}",
             "day 3 2",
             "machine 0 1 none",
             f"machine 1 1 names 1 {LONG} {B} {C}",
             "machine 2 0 makes",
-            f"machine 3 2 makes {A} {NO}",
+            f"machine 3 2 makes {A} {T}",
         ),
     ],
     # Numbers are in their own order: 9 comes before 10.
@@ -280,7 +278,7 @@ SCRIPTS = [
         # Whether it would be found or not.
         ("see 0 61", RAISED),
         ("see 0 62", RAISED),
-        ("see 0", RAISED),
+        ("see 0", EMPTY),
         ("show", f"place {A} 1", f"listed 0 {A}", f"machine 0 1 names 1 {A}", *NOTHING[1:]),
         ("break 0", "broken off"),
         ("break 0", MAKES_NONE),
@@ -303,7 +301,6 @@ SCRIPTS = [
             for machine in (4, 5, 10, 63, 64, 65, 255, 256, 65_536, 4_294_967_295)
             for step, rest in [
                 ("begin", ""),
-                ("see", ""),
                 ("see", " 61"),
                 ("raise", ""),
                 ("name", ""),

@@ -5,16 +5,16 @@ docs/STORE.md. The second program also checks the promise after each step."""
 
 from common import check_promise, main, played, sha256, sha256_repeat
 
-# The names of the pieces of no bytes and of the bytes 61, 62 and 63. In the order of
-# their digits: C, B, A, NO.
-NO = "e3b0c44298fc1c149afbf4c8996fb92427ae41e4649b934ca495991b7852b855"
+# The names of the pieces of the bytes 61, 62, 63 and 74. In the order of their digits:
+# C, B, A, T.
 A = "ca978112ca1bbdcafac231b39a23dc4da786eff8147c4e72b9807785afee48bb"
 B = "3e23e8160039594a33894f6564e1b1348bbd7a0088d42c4acb73eeaed59c009d"
 C = "2e7d2c03a9507ae265ecf5b5356885a53393a2029d241394997265a1a25aefc6"
+T = "e3b98a4da31a127d4bde6e43033f66ba274cab0eb7eb1c70ec41402bf6273dd8"
 LONG = sha256_repeat(0x61, 65_536)
-assert [NO, A, B, C] == [sha256(piece) for piece in (b"", b"a", b"b", b"c")]
-assert sorted([NO, A, B, C, LONG]) == [C, B, LONG, A, NO]
-NAMES = {"": NO, "61": A, "62": B, "63": C}
+assert [A, B, C, T] == [sha256(piece) for piece in (b"a", b"b", b"c", b"t")]
+assert sorted([A, B, C, T, LONG]) == [C, B, LONG, A, T]
+NAMES = {"61": A, "62": B, "63": C, "74": T}
 
 # In an answer, `line: ` stands for `line N: ` with the line's number.
 ABSENT = "line: refused by 1: there is no such machine, day or path"
@@ -29,7 +29,7 @@ NOTHING = ["machine 0 0 none", "machine 1 0 none", "machine 2 0 none", "machine 
 def sees(machine, *seen):
     """A machine sees to pieces; each is `found` or `written`, and its bytes."""
     for piece in seen:
-        done, digits = piece.split(" ") if " " in piece else (piece, "")
+        done, digits = piece.split()
         yield f"see {machine} {digits}", f"{done} {NAMES[digits]}"
 
 
@@ -353,7 +353,7 @@ SCRIPTS = [
     # Two sweeps one after the other. The first one is stopped; the second one decides on what it left aside, too:
     # what a day has got since is put back, and the rest is thrown away. Names are in their order.
     [
-        *let_go(2, 1, "written 61", "written 62", "written 63", "written"),
+        *let_go(2, 1, "written 61", "written 62", "written 63", "written 74"),
         ("begin 0", "begun"),
         *sees(0, "found 62"),
         ("look", "to put aside 4"),
@@ -363,31 +363,31 @@ SCRIPTS = [
         ("raise 0", "raised 1"),
         ("name 0", "named 1"),
         ("begin 1", "begun"),
-        *sees(1, "found", "written 63"),
+        *sees(1, "found 74", "written 63"),
         ("look", "to put aside 3"),
         # What lies aside already is put aside again.
         ("aside", f"put aside {C}"),
         ("aside", f"put aside {A}"),
-        ("aside", f"put aside {NO}"),
+        ("aside", f"put aside {T}"),
         ("aside", NOT_THERE),
         (
             "show",
             f"aside {C} 1",
             f"aside {B} 1",
             f"aside {A} 1",
-            f"aside {NO} 0",
+            f"aside {T} 1",
             f"listed 1 {C}",
             f"listed 2 {C}",
             f"listed 2 {B}",
             f"listed 2 {A}",
-            f"listed 2 {NO}",
+            f"listed 2 {T}",
             f"listed sweeper {C}",
             f"listed sweeper {B}",
             f"listed sweeper {A}",
-            f"listed sweeper {NO}",
+            f"listed sweeper {T}",
             f"day 0 1 {B}",
             "machine 0 1 none",
-            f"machine 1 0 makes {NO} {C}",
+            f"machine 1 0 makes {T} {C}",
             "machine 2 1 none",
             "machine 3 0 none",
             "sweeper puts aside",
@@ -405,47 +405,47 @@ SCRIPTS = [
             f"aside {C} 1",
             f"aside {B} 1",
             f"aside {A} 1",
-            f"aside {NO} 0",
+            f"aside {T} 1",
             f"listed 1 {C}",
             f"listed 2 {C}",
             f"listed 2 {B}",
             f"listed 2 {A}",
-            f"listed 2 {NO}",
+            f"listed 2 {T}",
             f"listed sweeper {C}",
             f"listed sweeper {B}",
             f"listed sweeper {A}",
-            f"listed sweeper {NO}",
+            f"listed sweeper {T}",
             f"day 0 1 {B}",
             "day 0 2",
-            f"day 1 1 {NO} {C}",
+            f"day 1 1 {T} {C}",
             f"day 2 2 {C} {C}",
             "day 3 1",
             *machines("2 none", "1 none", "2 none", "1 none"),
-            f"sweeper ends, back {C} {B} {NO}, away {A}",
+            f"sweeper ends, back {C} {B} {T}, away {A}",
         ),
         # A day that is let go after that changes nothing about it.
         ("go 0 1", "let go"),
         ("next", f"put back {C}"),
         ("next", f"put back {B}"),
-        ("next", f"put back {NO}"),
+        ("next", f"put back {T}"),
         ("next", f"thrown away {A}"),
         ("next", NOT_THERE),
         (
             "show",
             f"place {C} 1",
             f"place {B} 1",
-            f"place {NO} 0",
+            f"place {T} 1",
             f"listed 1 {C}",
             f"listed 2 {C}",
             f"listed 2 {B}",
             f"listed 2 {A}",
-            f"listed 2 {NO}",
+            f"listed 2 {T}",
             f"listed sweeper {C}",
             f"listed sweeper {B}",
             f"listed sweeper {A}",
-            f"listed sweeper {NO}",
+            f"listed sweeper {T}",
             "day 0 2",
-            f"day 1 1 {NO} {C}",
+            f"day 1 1 {T} {C}",
             f"day 2 2 {C} {C}",
             "day 3 1",
             *machines("2 none", "1 none", "2 none", "1 none"),
@@ -651,7 +651,7 @@ SCRIPTS = [
         ("begin 1", "begun"),
         *sees(1, "written 63"),
         ("part 1", "parted"),
-        *refused(ABSENT, "part 1", "begin 1", "see 1", "see 1 63", "raise 1", "name 1", "break 1"),
+        *refused(ABSENT, "part 1", "begin 1", "see 1 63", "raise 1", "name 1", "break 1"),
         ("see 1 repeat 61 65537", TOO_LONG),
         (
             "show",

@@ -10,13 +10,19 @@ from common import compare, main, programs, run, sha256
 MAX_LISTED = 262_144
 MACHINES = 4
 
-# How many pieces there are; one name is in the sweeper's list, too: that of the
-# piece FIRST, whose name comes first of all.
-PIECES = MAX_LISTED - 1
+# How many pieces a machine sees to before it breaks off its day. None has room for more than 4,096.
+FILES = 4_000
+
+# The first piece of a file of two. No name is left for the other one.
+ZEROS = bytes(2_048)
+
+# How many short pieces there are; of the names in the lists one more is that of ZEROS, and one is in the sweeper's
+# list, too: that of the piece FIRST, whose name comes first of all.
+PIECES = MAX_LISTED - 2
 FIRST = min(range(PIECES), key=lambda number: sha256(number.to_bytes(3, "big")))
+assert sha256(FIRST.to_bytes(3, "big")) < sha256(ZEROS)
 
 FULL = "refused by 5: the lists have at most 262144 names"
-NOT_THERE = "refused by 4: the sweeper is not at that point"
 NOT_THERE = "refused by 4: the sweeper is not at that point"
 NO_NUMBER = "refused by 3: the day has its number already, and is to be named or broken off"
 
@@ -32,12 +38,21 @@ def test():
         expected.extend(answer)
 
     def see(machine, piece, found=False):
+        if len(seen[machine]) == FILES:
+            step(f"break {machine}", "broken off")
+            step(f"begin {machine}", "begun")
+            seen[machine].clear()
         name = sha256(piece)
         step(f"see {machine} {piece.hex()}", ("found " if found else "written ") + name)
         seen[machine].append(name)
         if not found:
             place[name] = len(piece)
             listed.add((machine, name))
+
+    def add(machine, path, piece):
+        """Adds a file that is one piece, which is found."""
+        step(f"file {machine} {path} {piece.hex()}", "added 1, written 0")
+        seen[machine].append(sha256(piece))
 
     def put_aside():
         """Puts the first piece aside."""
@@ -65,6 +80,7 @@ def test():
     listed_by_sweeper += aside
     step("stop", "stopped")
     # Each machine writes a quarter of them, in turns.
+    see(1, ZEROS)
     for number in range(PIECES):
         see(number % MACHINES, number.to_bytes(3, "big"))
 
@@ -72,17 +88,34 @@ def test():
     for machine in range(MACHINES):
         refused(f"see {machine} 61", FULL)
         refused(f"see {machine} repeat 61 65536", FULL)
-        refused(f"see {machine}", FULL)
-        for number in (0, 1, 2, 3, 100_000, PIECES - 1):
+        refused(f"file {machine} a 61", FULL)
+        refused(f"file {machine} a repeat 61 70000", FULL)
+        # Of bytes 0 the first piece is found, and the last one would be new.
+        refused(f"file {machine} a repeat 00 5000", FULL)
+        refused(f"see {machine}", "refused by 1: a piece has at least one byte")
+        for number in (0, 1, 2, 3, 100_000, FIRST, PIECES - 1):
             see(machine, number.to_bytes(3, "big"), found=True)
+    # The first piece is not found, and its name is in the list of machine 1 alone. That machine writes it, and is
+    # refused the file for its last piece: the file is not in the day, and the next one may have its path.
+    for machine in (0, 2, 3):
+        step("flip-place 77 repeat 00 2048", "flipped")
+        refused(f"file {machine} a repeat 00 2048", FULL)
+        refused("file 1 a repeat 00 5000", FULL)
+        add(machine, "a", ZEROS)
+    add(1, "a", ZEROS)
+    step("file 2 b", "added 0, written 0")
     # What is refused by a lower number has that one.
+    refused("file 0 a 61", "refused by 1: a path must be above the one before it")
+    refused("file 4 a 61", "refused by 1: there is no such machine, day or path")
     refused("see 4 61", "refused by 1: there is no such machine, day or path")
     refused("see 0 repeat 61 65537", "refused by 1: a piece has at most 65536 bytes")
 
     # A day can still be made. Letting it go makes no room.
     step("raise 0", "raised 1")
-    refused("see 0 61", NO_NUMBER)
+    refused("see 0 61", "refused by 1: a path must be above the one before it")
+    refused("file 0 b 61", NO_NUMBER)
     step("name 0", "named 1")
+    step("back 0 1 a", f"2048 {ZEROS.hex()}")
     step("raise 1", "raised 1")
     step("break 2", "broken off")
     day = " ".join(["day 0 1", *seen[0]])
@@ -98,7 +131,7 @@ def test():
     refused("see 0 61", FULL)
 
     # The sweeper can put aside the piece whose name is in its list, and no other, and notes nothing then.
-    step("look", f"to put aside {PIECES}")
+    step("look", f"to put aside {PIECES + 1}")
     put_aside()
     refused("aside", FULL)
     refused("aside", FULL)

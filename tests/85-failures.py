@@ -7,6 +7,10 @@ import subprocess
 from common import TIME_LIMIT, TOP, Failure, main, programs
 
 
+# A file of megabytes is had back.
+BACK = b"begin 0\nfile 0 a repeat 61 9999999\nraise 0\nname 0\nback 0 1 a\n"
+
+
 def fails(name, path, what, **streams):
     done = subprocess.run([path], stderr=subprocess.PIPE, timeout=TIME_LIMIT, **streams)
     if done.returncode != 1:
@@ -26,6 +30,7 @@ def test():
             fails(name, path, "a full disk as its output", input=b"digest 616263\n", stdout=full)
             fails(name, path, "a full disk for many pieces", input=b"cut repeat 00 9999999\n", stdout=full)
             fails(name, path, "a full disk for what is where", input=b"show\n" * 9999, stdout=full)
+            fails(name, path, "a full disk for a file that is had back", input=BACK, stdout=full)
 
 
 main(test)

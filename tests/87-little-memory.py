@@ -5,7 +5,8 @@ and the script goes on. The plain Rust program gives up there, and is left out."
 import resource
 import subprocess
 
-from common import MAX_FILE, TIME_LIMIT, Failure, agreed_lines, check, cut_answer, main, pieces, programs, sha256
+from common import MAX_FILE, TIME_LIMIT, Failure, agreed_lines, check, cut_answer, had_back, main, pieces, programs
+from common import sha256
 
 MEGABYTE = 1 << 20
 NO_MEMORY = "there is not enough memory"
@@ -163,6 +164,53 @@ def sweep_store(path):
             raise Failure(f"with {limit} bytes: {got[-1]!r}")
 
 
+# A machine makes a day of files, which are had back. One of them is long, and has two pieces that are not the same.
+# The other lines need little memory.
+LONG_FILE = 16_000_000
+FILES = [
+    (b"begin 0", "begun"),
+    (b"file 0 a 616263", "added 1, written 1"),
+    (b"file 0 b repeat 61 %d" % LONG_FILE, "added 245, written 2"),
+    (b"file 0 c 6162", "added 1, written 1"),
+    (b"raise 0", "raised 1"),
+    (b"name 0", "named 1"),
+    (b"back 0 1 a", "3 616263"),
+    (b"back 0 1 b", had_back(b"a" * LONG_FILE)),
+    (b"back 0 1 c", "2 6162"),
+    (b"digest repeat 61 3", sha256(b"aaa")),
+]
+assert FILES[2][0].startswith(b"file 0 b") and FILES[7][0] == b"back 0 1 b"
+
+
+def back_files(path):
+    """A file that there is no memory for is not added, or not had back, and the others are."""
+    script = b"".join(line + b"\n" for line, _ in FILES)
+    agreed_lines(script, "files that are had back")
+    limits = [*range(12 * MEGABYTE, 80 * MEGABYTE, 4 * MEGABYTE), 200 * MEGABYTE]
+    counts = []
+    for limit in limits:
+        got = answers(path, script, limit)
+        if len(got) != len(FILES):
+            raise Failure(f"with {limit} bytes: {len(got)} answers to {len(FILES)} lines of files")
+        added = had = True
+        for number, ((line, wanted), answer) in enumerate(zip(FILES, got), 1):
+            if number == 3 and answer == f"line {number}: {NO_MEMORY}":
+                added = had = False
+            elif number == 8 and not added:
+                if answer != f"line {number}: refused by 1: there is no such machine, day or path":
+                    raise Failure(f"with {limit} bytes: line {number}, {line}, is answered by {answer[:160]!r}")
+            elif number == 8 and answer == f"line {number}: {NO_MEMORY}":
+                had = False
+            elif answer != wanted:
+                raise Failure(f"with {limit} bytes: line {number}, {line}, is answered by {answer[:160]!r}")
+        counts.append("had back" if had else "added" if added else "neither")
+    print(f"a file of {LONG_FILE} bytes, with 12 MiB, 16 MiB and so on, and 200 MiB: {', '.join(counts)}")
+    if counts[-1] != "had back":
+        raise Failure("with the largest limit there was not enough memory for a file")
+    if "neither" not in counts:
+        raise Failure("with each limit there was memory for a file that is added")
+
+
 def test():
     script = b"".join(line + b"\n" for line, _ in LINES)
     check(script, [line for _, answer in LINES for line in answer])
@@ -170,6 +218,7 @@ def test():
     (_, path), _ = programs()
     fill_store(path)
     sweep_store(path)
+    back_files(path)
     limits = range(12 * MEGABYTE, 80 * MEGABYTE, 2 * MEGABYTE)
     found = [played(answers(path, script, limit), limit) for limit in limits]
     counts = ", ".join(str(sum(which)) for which in found)

@@ -63,6 +63,27 @@ STARTS = [
     b"see 0 random 1 4",
     b"see 3 repeat 61 65537",
     b"see 63 61",
+    b"file 0 a",
+    b"file 0 a/b 616263",
+    b"file 1 z repeat 00 5000",
+    b"file 2 \xff random 1 9000",
+    b"file 0 " + b"p" * 255 + b" 61",
+    b"file 0 " + b"p" * 256 + b" 61",
+    b"file 3 a repeat 61 16777217",
+    b"file 0",
+    b"back 0 1 a",
+    b"back 4 1 a",
+    b"back 0 1",
+    b"bytes 0 1",
+    b"bytes 0",
+    b"flip-place 0 61",
+    b"flip-place 0",
+    b"flip-aside 0 61",
+    b"flip-aside 1 616263",
+    b"flip-day 0 1 3",
+    b"flip-day 0 1",
+    b"cut-day 0 1 40",
+    b"cut-day 0 1",
     b"raise 0",
     b"raise 1",
     b"name 0",
@@ -99,6 +120,13 @@ STARTS = [
     b"begin 3\nsee 3 61\nsee 3 62\npart 3\nbegin 3\nstop\nlook\naside\naside\naside\nshow\nnote\nnote\nstop",
     b"part 0\npart 1\npart 2\npart 3\ndecide\nshow\nnext\nstop\nshow\ndecide\nnext\nnext\nnext\nlook",
     b"break 0\nbegin 0\nsee 0 61\nsee 0 63\nbreak 0\nstop\nlook\naside\nbegin 0\nsee 0 61\nsee 0 63\nnote",
+    b"break 0\nbegin 0\nfile 0 a\nfile 0 b 6162\nsee 0 61\nfile 0 a 61\nraise 0\nfile 0 d 61\nname 0\nbytes 0 1",
+    b"break 1\nbegin 1\nfile 1 a 6162\nraise 1\nname 1\nback 1 1 a\nback 1 2 a\nback 1 3 a\ngo 1 1\ngo 1 2",
+    b"break 1\nbegin 1\nfile 1 e\nraise 1\nname 1\nback 1 1 e\nback 1 2 e\nback 1 3 e\nback 1 4 e\nback 1 5 e",
+    b"break 2\nbegin 2\nfile 2 a 6162\nraise 2\nname 2\nbytes 2 1\nflip-day 2 1 9\nback 2 1 a\nshow\nlook\ngo 2 1",
+    b"break 3\nbegin 3\nfile 3 a 63\nraise 3\nname 3\ncut-day 3 1 30\nbytes 3 1\nback 3 1 a\ndecide\ngo 3 1",
+    b"break 0\nbegin 0\nfile 0 z 6162\nraise 0\nname 0\nflip-place 1 6162\nback 0 1 z\nback 0 2 z\nflip-place 1 6162",
+    b"stop\nlook\naside\naside\nflip-aside 0 61\nflip-aside 0 6162\nflip-aside 0 6162\nstop",
     b"# comment",
     b"",
     b" \t\r",
@@ -113,13 +141,14 @@ PIECES += [b"\x0b", b"\x1f", b"~", b"\x7f", b"\x80", b"\xff", b"digest", b"repea
 PIECES += [b"cut", b"random", b" 1 ", b"begin", b"see", b"raise", b"name", b"break", b"go", b"show"]
 PIECES += [b" 0", b"1", b"\nbegin 0\n", b"\nraise 1\n", b"part", b"look", b"aside", b"note", b"decide"]
 PIECES += [b"next", b"stop", b"\nlook\n", b"\naside\n", b"\nstop\n"]
+PIECES += [b"file", b"back", b"bytes", b"flip-place", b"flip-aside", b"flip-day", b"cut-day", b" a ", b"-"]
 
-# A count that takes both programs long; there are other tests for those. `cut`
-# refuses 20,000,000 bytes and more, which takes no time.
+# A count that takes both programs long; there are other tests for those. `cut` and
+# `file` refuse 20,000,000 bytes and more, which takes no time.
 FORM = rb"[ \t]+(?:repeat[ \t]+[0-9a-fA-F]{2}|random[ \t]+[0-9]+)[ \t]+0*"
 SLOW = re.compile(
     rb"digest" + FORM + rb"[1-9][0-9]{6,9}(?![0-9])"
-    rb"|cut" + FORM + rb"(?:[1-9][0-9]{6}|1[0-9]{7})(?![0-9])"
+    rb"|(?:cut|file[ \t]+[^ \t]+[ \t]+[^ \t]+)" + FORM + rb"(?:[1-9][0-9]{6}|1[0-9]{7})(?![0-9])"
 )
 
 # What must be among the answers, for the scripts to be worth something.
@@ -149,6 +178,18 @@ KINDS = {
     "a machine that makes none": rb"^line [0-9]+: refused by 3: the machine makes no day$",
     "a number that is raised": rb"^line [0-9]+: refused by 3: the day has its number already",
     "a number that is not raised": rb"^line [0-9]+: refused by 3: the day has no number yet",
+    "the line of a step of files": rb"^line [0-9]+: write the line as '(file|back|bytes) M ",
+    "the line of a step that damages": rb"^line [0-9]+: write the line as '(flip-(place|aside|day)|cut-day) ",
+    "a path that is too long": rb"^line [0-9]+: refused by 1: a path has from 1 to 255 bytes$",
+    "a path that is not above": rb"^line [0-9]+: refused by 1: a path must be above the one before it$",
+    "a piece of no bytes": rb"^line [0-9]+: refused by 1: a piece has at least one byte$",
+    "a day that is damaged": rb"^line [0-9]+: refused by 2: a day is damaged or incomplete$",
+    "a file that is added": rb"^added [0-9]+, written [0-9]+$",
+    "bytes of a file or a day": rb"^[1-9][0-9]* (?:[0-9a-f]{2})+$",
+    "no bytes": rb"^0$",
+    "that a byte is turned round": rb"^flipped$",
+    "that a day is cut": rb"^cut$",
+    "a day that is shown as damaged": rb"^day [0-3] [0-9]+ damaged$",
     "a day that is begun": rb"^begun$",
     "a piece that is found": rb"^found [0-9a-f]{64}$",
     "a piece that is written": rb"^written [0-9a-f]{64}$",

@@ -22,8 +22,9 @@ LISTED = range(4)
 OTHERS = ["4", "5", "63", "64", "255", "256", "4294967295", "04"]
 
 # Few pieces, some of them in several forms, so that most are found; and pieces that are too long.
-PIECES = ["", "61", "62", "repeat 61 1", "repeat 62 1", "6162", "repeat 61 0", "random 1 4", "6c82A562"]
+PIECES = ["74", "61", "62", "repeat 61 1", "repeat 62 1", "6162", "random 1 4", "6c82A562"]
 LARGE = ["random 2 9000", "repeat 00 65536", "repeat 61 65535", "random 3 65536"]
+EMPTY = ["", "repeat 61 0", "random 1 0"]
 TOO_LONG = ["repeat 61 65537", "random 1 65537", "repeat 00 1073741824", "random 7 99999999"]
 
 # Lines that are no step.
@@ -41,6 +42,7 @@ KINDS = {
     "named": r"named [1-9][0-9]*",
     "broken off": r"broken off",
     "let go": r"let go",
+    "a piece of no bytes": r"line N: refused by 1: a piece has at least one byte",
     "a piece that is too long": r"line N: refused by 1: a piece has at most 65536 bytes",
     "no such machine or day": r"line N: refused by 1: there is no such machine, day or path",
     "makes a day already": r"line N: refused by 3: the machine already makes a day",
@@ -107,10 +109,10 @@ class Script:
         return self.source.choice(("", "", "", "", "", "0", "000")) + str(number)
 
     def piece(self):
-        return self.source.choice(self.source.choices((PIECES, LARGE, TOO_LONG), (20, 1, 1))[0])
+        return self.source.choice(self.source.choices((PIECES, LARGE, TOO_LONG, EMPTY), (20, 1, 1, 1))[0])
 
     def done(self, machine):
-        """A step that the machine is not refused, unless its piece is too long."""
+        """A step that the machine is not refused, unless its piece has no bytes or too many."""
         match self.state[machine]:
             case "rests":
                 step = "begin"

@@ -20,6 +20,9 @@ from common import TOP, Failure, main
 # The specs that have the rules, each by its crate and its name there.
 RULES = [("days", "System"), ("sweeper", "System"), ("sweeper", "Sweepers"), ("sweeper", "Pieces")]
 
+# What stands on the code of machines, which goes by the right rules: the copied promise does without it.
+ON_CODE = ["src/files.rt", "specs/Back.antt", "proofs/Returns.antt", "proofs/files/days_come_back/Answers.antt"]
+
 # How many checks there are at a time, and the seconds that one of them may take.
 JOBS = 2
 CHECK_LIMIT = 900
@@ -193,6 +196,15 @@ def copied(top):
     promise = top / "crates/promise"
     for path in promise.rglob("*.antt"):
         path.write_text(renamed(path.read_text()))
+    for path in ON_CODE:
+        (promise / path).unlink()
+    for lib, lines in [
+        ("src/lib.rt", r"mod files;|pub use files::.*;"),
+        ("specs/Lib.antt", "pub mod Back"),
+        ("proofs/Lib.antt", "pub mod Returns"),
+    ]:
+        text = (promise / lib).read_text()
+        (promise / lib).write_text(re.sub(rf"^(?:{lines})\n", "", text, flags=re.MULTILINE))
     with open(promise / "specs/Lib.antt", "a") as lib:
         lib.writelines(f"pub mod {module(crate, name)}\n" for crate, name in RULES)
     write_rules(promise)

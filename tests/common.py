@@ -18,8 +18,11 @@ MAX_LINE = 67_108_864
 # The largest count, and the largest seed.
 MAX_COUNT = 1_073_741_824
 
-# The longest file that is cut.
+# The longest file that is cut, the longest piece, the longest path, and the most files of a day.
 MAX_FILE = 16_777_216
+MAX_PIECE = 65_536
+MAX_PATH = 255
+MAX_FILES = 4_096
 
 # What follows `line N: ` where the words after a step's name are no form of
 # bytes, and where `cut` is given too many bytes.
@@ -45,6 +48,15 @@ def programs():
         reference = build_reference()
     # A path without a slash would be searched for in PATH.
     return [("rehearse", rehearse.absolute()), ("reference", reference.absolute())]
+
+
+def readers():
+    """The two programs that read strings as day files, each as its name and its command."""
+    readdays = Path(os.environ.get("READDAYS") or TOP / "target/bin/readdays")
+    if not os.access(readdays, os.X_OK):
+        raise Failure(f"no program at {readdays}: run tools/build first")
+    _, (name, reference) = programs()
+    return [("readdays", [readdays.absolute()]), (name, [reference, "--read-days"])]
 
 
 def build_reference():
@@ -153,6 +165,25 @@ def pieces(file):
             found.append(file[start:end])
             start = end
     return found
+
+
+def listed(path, file):
+    """A file as a day lists it: its path, its length, and the names of its pieces."""
+    return path, len(file), [hashlib.sha256(piece).digest() for piece in pieces(file)]
+
+
+def day_file(machine, number, files):
+    """The day file of docs/DAYS.md with these files, as `listed` gives them."""
+    parts = [bytes([68, machine]), number.to_bytes(4, "big"), len(files).to_bytes(2, "big")]
+    for path, length, names in files:
+        parts += [bytes([len(path)]), path, length.to_bytes(4, "big"), len(names).to_bytes(2, "big"), *names]
+    day = b"".join(parts)
+    return day + hashlib.sha256(day).digest()
+
+
+def had_back(file):
+    """The answer to `back` and to `bytes`."""
+    return f"{len(file)} {file.hex()}".rstrip()
 
 
 def cut_answer(cut):

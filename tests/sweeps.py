@@ -6,7 +6,7 @@ from common import sha256
 MACHINES = range(4)
 
 # Pieces in the order of their names, so that a piece is known by its place here.
-PIECES = sorted(["", "61", "62", "63"], key=lambda digits: sha256(bytes.fromhex(digits)))
+PIECES = sorted(["61", "62", "63", "74"], key=lambda digits: sha256(bytes.fromhex(digits)))
 
 
 class Script:

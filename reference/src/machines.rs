@@ -1,6 +1,7 @@
 //! The machines and the days that they make, as `docs/STORE.md` has them.
 
-use crate::cutting::MOST;
+use crate::cutting::{self, MOST};
+use crate::dayfile::{self, File, MAX_FILES, MAX_PATH};
 use crate::refusal::Refusal;
 use crate::sha256::{sha256, Digest};
 use crate::store::Store;
@@ -20,13 +21,29 @@ pub struct Machines {
 /// A day that a machine makes.
 #[derive(Clone, Debug, Default, PartialEq, Eq)]
 pub struct Making {
-    /// The names of the pieces that were seen to, in their order.
-    pub pieces: Vec<Digest>,
+    /// The files that were added, in their order.
+    pub files: Vec<File>,
     /// The day's number, once it is raised.
     pub number: Option<u32>,
 }
 
 impl Making {
+    /// The names of the pieces that were seen to, in their order.
+    pub fn pieces(&self) -> impl Iterator<Item = &Digest> + Clone {
+        self.files.iter().flat_map(|file| &file.pieces)
+    }
+
+    /// The day takes one file more, of this path.
+    fn check_takes(&self, path: &[u8]) -> Result<(), Refusal> {
+        if self.files.len() >= MAX_FILES {
+            return Err(Refusal::TooManyFiles);
+        }
+        if self.files.last().is_some_and(|file| file.path[..] >= *path) {
+            return Err(Refusal::PathNotAbove);
+        }
+        self.check_not_raised()
+    }
+
     fn check_not_raised(&self) -> Result<(), Refusal> {
         match self.number {
             Some(_) => Err(Refusal::NumberRaised),
@@ -40,6 +57,32 @@ impl Making {
 pub enum Seen {
     Found(Digest),
     Written(Digest),
+}
+
+impl Seen {
+    /// The piece's name.
+    pub fn name(self) -> Digest {
+        match self {
+            Seen::Found(name) | Seen::Written(name) => name,
+        }
+    }
+}
+
+/// Why a file is not added, and what the machine had seen to for it by then: that is
+/// listed and written, and in no day.
+#[derive(Clone, Debug, PartialEq, Eq)]
+pub struct NotAdded {
+    pub refusal: Refusal,
+    pub seen: Vec<Seen>,
+}
+
+impl From<Refusal> for NotAdded {
+    fn from(refusal: Refusal) -> Self {
+        NotAdded {
+            refusal,
+            seen: Vec::new(),
+        }
+    }
 }
 
 impl Machines {
@@ -62,27 +105,54 @@ impl Machines {
         }
     }
 
-    /// Only the very bytes of the piece, in its place, are found: what lies aside
-    /// may be thrown away before the day has its name.
+    /// Adds a file to the day that the machine makes. The answer is what was done for
+    /// each of its pieces.
+    pub fn add(&mut self, machine: u32, path: &[u8], file: &[u8]) -> Result<Vec<Seen>, NotAdded> {
+        let pieces = cutting::pieces(file).ok_or(Refusal::FileTooLong)?;
+        if path.is_empty() || path.len() > MAX_PATH {
+            return Err(Refusal::NoPath.into());
+        }
+        self.add_pieces(machine, path, &pieces)
+    }
+
+    /// The same for a file that is one piece, whose path is its place in the day.
     pub fn see(&mut self, machine: u32, piece: &[u8]) -> Result<Seen, Refusal> {
+        if piece.is_empty() {
+            return Err(Refusal::PieceEmpty);
+        }
         if piece.len() > MOST {
             return Err(Refusal::PieceTooLong);
         }
+        let before = self.making.get(&machine).map_or(0, |day| day.files.len());
+        let path = format!("{:04}", before + 1);
+        match self.add_pieces(machine, path.as_bytes(), &[piece]) {
+            Ok(seen) => Ok(seen[0]),
+            Err(not_added) => Err(not_added.refusal),
+        }
+    }
+
+    fn add_pieces(
+        &mut self,
+        machine: u32,
+        path: &[u8],
+        pieces: &[&[u8]],
+    ) -> Result<Vec<Seen>, NotAdded> {
         self.check_on_list(machine)?;
         let day = self.making.get_mut(&machine).ok_or(Refusal::MakesNoDay)?;
-        day.check_not_raised()?;
-        let name = sha256(piece);
-        let found = self.store.read(&name) == Some(piece)
-            || self.variant == Some(Variant::AsideFound)
-                && self.store.read_aside(&name) == Some(piece);
-        let seen = if found {
-            Seen::Found(name)
-        } else {
-            self.store.list(machine, name)?;
-            self.store.write(name, piece);
-            Seen::Written(name)
-        };
-        day.pieces.push(name);
+        day.check_takes(path)?;
+        let mut seen = Vec::new();
+        for piece in pieces {
+            match see_to(&mut self.store, self.variant, machine, piece) {
+                Ok(done) => seen.push(done),
+                Err(refusal) => return Err(NotAdded { refusal, seen }),
+            }
+        }
+        let length: usize = pieces.iter().map(|piece| piece.len()).sum();
+        day.files.push(File {
+            path: path.to_vec(),
+            length: length as u32,
+            pieces: seen.iter().map(|done| done.name()).collect(),
+        });
         Ok(seen)
     }
 
@@ -103,7 +173,9 @@ impl Machines {
         self.check_on_list(machine)?;
         let day = self.making.get(&machine).ok_or(Refusal::MakesNoDay)?;
         let number = day.number.ok_or(Refusal::NumberNotRaised)?;
-        self.store.name_day(machine, number, &day.pieces)?;
+        // No machine above 63 is on the list.
+        let bytes = dayfile::write(machine as u8, number, &day.files);
+        self.store.name_day(machine, number, &bytes)?;
         self.making.remove(&machine);
         Ok(number)
     }
@@ -132,10 +204,37 @@ impl Machines {
     }
 }
 
+/// Only the very bytes of the piece, in its place, are found: what lies aside may be
+/// thrown away before the day has its name.
+fn see_to(
+    store: &mut Store,
+    variant: Option<Variant>,
+    machine: u32,
+    piece: &[u8],
+) -> Result<Seen, Refusal> {
+    let name = sha256(piece);
+    let finds_aside = variant == Some(Variant::AsideFound);
+    if store.read(&name) == Some(piece) || finds_aside && store.read_aside(&name) == Some(piece) {
+        return Ok(Seen::Found(name));
+    }
+    store.list(machine, name)?;
+    store.write(name, piece);
+    Ok(Seen::Written(name))
+}
+
 #[cfg(test)]
 mod tests {
     use super::*;
+    use crate::cutting::MAX_FILE;
     use crate::store::MAX_LISTED;
+
+    /// The pieces of a day in the store, in the order of its files.
+    #[track_caller]
+    fn pieces(store: &Store, machine: u32, number: u32) -> Vec<Digest> {
+        let bytes = &store.days[&(machine, number)];
+        let files = Store::files(machine, number, bytes).expect("it is of the form");
+        files.into_iter().flat_map(|file| file.pieces).collect()
+    }
 
     fn machines() -> Machines {
         Machines::new(Store::new([0, 1]))
@@ -153,6 +252,17 @@ mod tests {
         assert_eq!(*machines, before);
     }
 
+    /// Adds a file; the answer is what is refused of it alone.
+    fn add(
+        machines: &mut Machines,
+        machine: u32,
+        path: &[u8],
+        file: &[u8],
+    ) -> Result<Vec<Seen>, Refusal> {
+        let added = machines.add(machine, path, file);
+        added.map_err(|not_added| not_added.refusal)
+    }
+
     #[test]
     fn a_day() {
         let (a, b) = (sha256(b"a"), sha256(b"b"));
@@ -163,7 +273,7 @@ mod tests {
         assert_eq!(machines.see(0, b"a"), Ok(Seen::Found(a)));
         assert_eq!(machines.raise(0), Ok(1));
         assert_eq!(machines.name(0), Ok(1));
-        assert_eq!(machines.store.days[&(0, 1)], [a, b, a]);
+        assert_eq!(pieces(&machines.store, 0, 1), [a, b, a]);
         assert_eq!(machines.store.listed.len(), 2);
         assert_eq!(machines.store.read(&a), Some(&b"a"[..]));
         assert!(machines.making.is_empty());
@@ -186,7 +296,10 @@ mod tests {
         for machine in [2, 63, 64, u32::MAX] {
             refused(&mut machines, Refusal::NotThere, |all| all.begin(machine));
             refused(&mut machines, Refusal::NotThere, |all| {
-                all.see(machine, b"")
+                all.see(machine, b"a")
+            });
+            refused(&mut machines, Refusal::NotThere, |all| {
+                add(all, machine, b"a", b"")
             });
             refused(&mut machines, Refusal::NotThere, |all| all.raise(machine));
             refused(&mut machines, Refusal::NotThere, |all| all.name(machine));
@@ -214,7 +327,7 @@ mod tests {
         refused(&mut machines, Refusal::NotThere, |all| all.name(1));
         refused(&mut machines, Refusal::NotThere, |all| all.break_off(1));
         // What it has made stays.
-        assert_eq!(machines.store.days[&(1, 1)], [sha256(b"a")]);
+        assert_eq!(pieces(&machines.store, 1, 1), [sha256(b"a")]);
         assert_eq!(machines.store.highest(1), 1);
         assert_eq!(machines.store.listed.len(), 1);
         assert_eq!(machines.store.let_go(1, 1), Ok(()));
@@ -225,7 +338,10 @@ mod tests {
     fn no_day() {
         let mut machines = machines();
         machines.begin(1).expect("it makes none");
-        refused(&mut machines, Refusal::MakesNoDay, |all| all.see(0, b""));
+        refused(&mut machines, Refusal::MakesNoDay, |all| all.see(0, b"a"));
+        refused(&mut machines, Refusal::MakesNoDay, |all| {
+            add(all, 0, b"a", b"")
+        });
         refused(&mut machines, Refusal::MakesNoDay, |all| all.raise(0));
         refused(&mut machines, Refusal::MakesNoDay, |all| all.name(0));
         refused(&mut machines, Refusal::MakesNoDay, |all| all.break_off(0));
@@ -239,7 +355,10 @@ mod tests {
         refused(&mut machines, Refusal::NumberNotRaised, |all| all.name(0));
         machines.raise(0).expect("it has not raised");
         refused(&mut machines, Refusal::AlreadyMakesDay, |all| all.begin(0));
-        refused(&mut machines, Refusal::NumberRaised, |all| all.see(0, b""));
+        refused(&mut machines, Refusal::NumberRaised, |all| all.see(0, b"a"));
+        refused(&mut machines, Refusal::NumberRaised, |all| {
+            add(all, 0, b"a", b"")
+        });
         refused(&mut machines, Refusal::NumberRaised, |all| all.raise(0));
         machines.break_off(0).expect("it makes a day");
         assert!(machines.making.is_empty());
@@ -287,6 +406,161 @@ mod tests {
         });
     }
 
+    /// What a day lists of its files.
+    #[test]
+    fn files() {
+        let zeros = vec![0; 5_000];
+        let name = sha256(&zeros[..2_048]);
+        let last = sha256(&zeros[..904]);
+        let mut machines = machines();
+        machines.begin(1).expect("it makes none");
+        assert_eq!(machines.add(1, b"\0", b""), Ok(vec![]));
+        assert_eq!(machines.see(1, b"a"), Ok(Seen::Written(sha256(b"a"))));
+        let seen = [Seen::Written(name), Seen::Found(name), Seen::Written(last)];
+        assert_eq!(machines.add(1, b"1", &zeros), Ok(seen.to_vec()));
+        let path = [b'z'; MAX_PATH];
+        let seen = vec![Seen::Found(sha256(b"a"))];
+        assert_eq!(machines.add(1, &path, b"a"), Ok(seen));
+        machines.raise(1).expect("it has not raised");
+        machines.name(1).expect("it has raised");
+        let file = |path: &[u8], length: u32, pieces: &[Digest]| File {
+            path: path.to_vec(),
+            length,
+            pieces: pieces.to_vec(),
+        };
+        let files = [
+            file(b"\0", 0, &[]),
+            file(b"0002", 1, &[sha256(b"a")]),
+            file(b"1", 5_000, &[name, name, last]),
+            file(&path, 1, &[sha256(b"a")]),
+        ];
+        let bytes = &machines.store.days[&(1, 1)];
+        assert_eq!(*bytes, dayfile::write(1, 1, &files));
+    }
+
+    #[test]
+    fn paths() {
+        let mut machines = machines();
+        let longer = [b'a'; MAX_PATH + 1];
+        for path in [&b""[..], &longer] {
+            // This comes before the machine is looked at.
+            for machine in [0, 2] {
+                refused(&mut machines, Refusal::NoPath, |all| {
+                    add(all, machine, path, b"a")
+                });
+            }
+        }
+        machines.begin(0).expect("it makes none");
+        refused(&mut machines, Refusal::NoPath, |all| {
+            add(all, 0, &longer, b"a")
+        });
+        assert_eq!(add(&mut machines, 0, b"0002", b""), Ok(vec![]));
+        for path in [&b"\0"[..], b"0", b"0001", b"0001~", b"0002"] {
+            refused(&mut machines, Refusal::PathNotAbove, |all| {
+                add(all, 0, path, b"a")
+            });
+        }
+        // The place of the next file is 2.
+        refused(&mut machines, Refusal::PathNotAbove, |all| all.see(0, b"a"));
+        assert_eq!(add(&mut machines, 0, b"0002\0", b""), Ok(vec![]));
+        assert_eq!(
+            machines.see(0, b"a"),
+            Ok(Seen::Written(sha256(b"a"))),
+            "its path is 0003"
+        );
+        machines.raise(0).expect("it has not raised");
+        // The lower number wins.
+        refused(&mut machines, Refusal::PathNotAbove, |all| {
+            add(all, 0, b"0003", b"a")
+        });
+        refused(&mut machines, Refusal::NumberRaised, |all| {
+            add(all, 0, b"0004", b"a")
+        });
+    }
+
+    #[test]
+    fn many_files() {
+        let mut machines = machines();
+        machines.begin(0).expect("it makes none");
+        for _ in 0..MAX_FILES {
+            machines.see(0, b"a").expect("it makes a day");
+        }
+        assert_eq!(machines.making[&0].files[MAX_FILES - 1].path, b"4096");
+        refused(&mut machines, Refusal::TooManyFiles, |all| all.see(0, b"a"));
+        // Whether its path is above or not, and its number raised or not.
+        for raise in [false, true] {
+            if raise {
+                machines.raise(0).expect("it has not raised");
+            }
+            for path in [b"0", b"a"] {
+                refused(&mut machines, Refusal::TooManyFiles, |all| {
+                    add(all, 0, path, b"")
+                });
+            }
+        }
+    }
+
+    #[test]
+    fn long_files() {
+        let mut machines = machines();
+        let longer = vec![0; MAX_FILE + 1];
+        // This comes before all else.
+        for (machine, path) in [(0, &b""[..]), (2, b"a")] {
+            refused(&mut machines, Refusal::FileTooLong, |all| {
+                add(all, machine, path, &longer)
+            });
+        }
+        machines.begin(0).expect("it makes none");
+        refused(&mut machines, Refusal::FileTooLong, |all| {
+            add(all, 0, b"a", &longer)
+        });
+        let seen = machines.add(0, b"a", &longer[1..]).expect("it has room");
+        assert_eq!(seen.len(), 8_192);
+        assert_eq!(machines.making[&0].files[0].length, 16_777_216);
+    }
+
+    #[test]
+    fn empty_pieces() {
+        let mut machines = machines();
+        for machine in [0, 2] {
+            refused(&mut machines, Refusal::PieceEmpty, |all| {
+                all.see(machine, b"")
+            });
+        }
+        machines.begin(0).expect("it makes none");
+        refused(&mut machines, Refusal::PieceEmpty, |all| all.see(0, b""));
+    }
+
+    /// What was seen to before a name cannot be listed stays; the file is in no day.
+    #[test]
+    fn a_file_that_is_half_seen_to() {
+        let zeros = vec![0; 5_000];
+        let (name, last) = (sha256(&zeros[..2_048]), sha256(&zeros[..904]));
+        let mut machines = machines();
+        machines.begin(0).expect("it makes none");
+        machines.see(0, b"a").expect("it makes a day");
+        for at in 0.. {
+            if machines.store.listed.len() + 1 == MAX_LISTED {
+                break;
+            }
+            let mut name = [0; 32];
+            name[..4].copy_from_slice(&u32::to_be_bytes(at));
+            machines.store.listed.insert((1, name));
+        }
+        let before = machines.making.clone();
+        let not_added = NotAdded {
+            refusal: Refusal::ListsFull,
+            seen: vec![Seen::Written(name), Seen::Found(name)],
+        };
+        assert_eq!(machines.add(0, b"b", &zeros), Err(not_added));
+        assert_eq!(machines.making, before);
+        assert!(machines.store.in_place(&name) && !machines.store.in_place(&last));
+        assert!(machines.store.listed.contains(&(0, name)));
+        // Its path is still free, and the day goes on.
+        let seen = vec![Seen::Found(name)];
+        assert_eq!(machines.add(0, b"b", &zeros[..2_048]), Ok(seen));
+    }
+
     #[test]
     fn pieces_aside() {
         let name = sha256(b"a");
@@ -298,7 +572,7 @@ mod tests {
         assert_eq!(machines.store.read(&name), Some(&b"a"[..]));
         assert_eq!(machines.store.read_aside(&name), Some(&b"a"[..]));
         assert_eq!(machines.see(0, b"a"), Ok(Seen::Found(name)));
-        assert_eq!(machines.making[&0].pieces, [name; 3]);
+        assert!(machines.making[&0].pieces().eq(&[name; 3]));
         assert_eq!(machines.store.listed.len(), 1);
     }
 

@@ -1,21 +1,26 @@
-//! What `docs/STORE.md` promises, checked after each step of a script.
+//! What `docs/STORE.md` and `docs/DAYS.md` promise, checked after each step of a script.
 //!
 //! The checker keeps a record of the history beside the store. It goes by what
-//! the steps have answered, and compares that with what the store holds.
+//! the steps have answered, and compares that with what the store holds. Nothing is
+//! promised once something was damaged, and nothing is checked any more then.
 
+use crate::back::back;
 use crate::sha256::{sha256, Digest};
+use crate::store::Store;
 use crate::sweeper::Point;
 use crate::world::World;
 use std::collections::{BTreeMap, BTreeSet};
 use std::fmt;
 
 /// What a step has done, as far as the promise speaks of it.
-#[derive(Clone, Copy, Debug, PartialEq, Eq)]
+#[derive(Clone, Debug, PartialEq, Eq)]
 pub enum Event {
     /// A machine begins a day.
     Begun(u32),
-    /// A machine has seen to a piece.
-    Seen(u32, Digest),
+    /// A machine has added a file to the day that it makes.
+    Added(u32, Given),
+    /// A machine has not added a file, and had seen to these pieces of it by then.
+    Tried(Vec<Digest>),
     /// A machine has named a day of this number.
     Named(u32, u32),
     /// A machine breaks off its day.
@@ -29,13 +34,33 @@ pub enum Event {
     /// The sweeper has decided, or has put back or thrown away a piece.
     Ending,
     Stopped,
+    Damaged,
     /// Nothing of these, or the line was no step, or the step was refused.
     Other,
 }
 
+/// A file as a machine was given it.
+#[derive(Clone, Debug, PartialEq, Eq)]
+pub struct Given {
+    /// None where the path is the file's place in the day.
+    pub path: Option<Vec<u8>>,
+    /// The SHA-256 of its bytes.
+    pub digest: Digest,
+    /// The names of its pieces, each of which was seen to.
+    pub pieces: Vec<Digest>,
+}
+
+/// A file that is to be had back.
+#[derive(Clone, Debug, PartialEq, Eq)]
+struct Kept {
+    path: Vec<u8>,
+    digest: Digest,
+    pieces: Vec<Digest>,
+}
+
 /// Which promise is broken, and by what. A piece is needed if a day that is kept
 /// has it, or a machine on the list has seen to it for the day that it makes.
-#[derive(Clone, Copy, Debug, PartialEq, Eq)]
+#[derive(Clone, Debug, PartialEq, Eq)]
 pub enum Broken {
     /// A piece that is needed is not there.
     Kept(Owner, Digest),
@@ -43,8 +68,10 @@ pub enum Broken {
     ThrownAway(Owner, Digest),
     /// What lay in a place lies neither there nor aside.
     LeftPlace(Digest),
-    /// A day has other pieces, or is not there, or was never named.
+    /// A day has other files or pieces, or is not there, or was never named.
     Changed(u32, u32),
+    /// The file of this path is not had back from a day with the bytes that it had.
+    NotBack(u32, u32, Vec<u8>),
     NumberTwice(u32, u32),
     /// What a day had at the last look is to be put aside, or was.
     HadAtLook(Digest),
@@ -90,7 +117,12 @@ impl fmt::Display for Broken {
             }
             Broken::Changed(machine, number) => write!(
                 f,
-                "a day keeps its pieces till it is let go: day {machine} {number}"
+                "a day keeps its files till it is let go: day {machine} {number}"
+            ),
+            Broken::NotBack(machine, number, path) => write!(
+                f,
+                "a file is had back as it was: that of day {machine} {number} whose path is {}",
+                Hex(path)
             ),
             Broken::NumberTwice(machine, number) => {
                 write!(f, "no number is used for two days: day {machine} {number}")
@@ -117,8 +149,8 @@ impl fmt::Display for Broken {
     }
 }
 
-/// A name as 64 digits.
-struct Hex<'a>(&'a Digest);
+/// A name or a path in digits.
+struct Hex<'a>(&'a [u8]);
 
 impl fmt::Display for Hex<'_> {
     fn fmt(&self, f: &mut fmt::Formatter) -> fmt::Result {
@@ -129,12 +161,12 @@ impl fmt::Display for Hex<'_> {
 /// The record of the history. It begins with an empty store.
 #[derive(Clone, Debug, Default)]
 pub struct Checker {
-    /// The pieces of each day that was named and not let go.
-    kept: BTreeMap<(u32, u32), Vec<Digest>>,
+    /// The files of each day that was named and not let go.
+    kept: BTreeMap<(u32, u32), Vec<Kept>>,
     /// The machine and the number of every day that ever was.
     used: BTreeSet<(u32, u32)>,
-    /// What each machine on the list has seen to for the day that it makes.
-    making: BTreeMap<u32, Vec<Digest>>,
+    /// What each machine on the list has added to the day that it makes.
+    making: BTreeMap<u32, Vec<Kept>>,
     /// What lay where after the last step.
     lay: Lying,
     /// What days had at the last look.
@@ -142,10 +174,15 @@ pub struct Checker {
     /// While a sweep goes on that has not been stopped: what lay in its place at
     /// the look, no day had then or has had since, and no machine has seen to since.
     idle: Option<BTreeSet<Digest>>,
+    /// What lay under the names of the days whose files were had back, since anything
+    /// lies where it lies.
+    had_back: BTreeMap<(u32, u32), Vec<u8>>,
+    /// Whether something was damaged.
+    damaged: bool,
 }
 
 /// What lies in places and aside: the SHA-256 of the bytes under each name.
-#[derive(Clone, Debug, Default)]
+#[derive(Clone, Debug, Default, PartialEq, Eq)]
 struct Lying {
     place: BTreeMap<Digest, Digest>,
     aside: BTreeMap<Digest, Digest>,
@@ -180,7 +217,11 @@ impl Checker {
     }
 
     /// Takes in what a step has done, and checks the promise on what there is now.
-    pub fn check(&mut self, event: Event, world: &World) -> Result<(), Broken> {
+    pub fn check(&mut self, event: &Event, world: &World) -> Result<(), Broken> {
+        self.damaged |= *event == Event::Damaged;
+        if self.damaged {
+            return Ok(());
+        }
         let lie = Lying::of(world);
         self.take_in(event, &lie)?;
         self.check_days(world)?;
@@ -189,57 +230,77 @@ impl Checker {
         self.check_places(&lie)?;
         self.check_putting_aside(event, world, &lie)?;
         self.check_end(event, world, &lie)?;
+        self.check_files(world, &lie)?;
         self.lay = lie;
         Ok(())
     }
 
     /// Goes on with the record.
-    fn take_in(&mut self, event: Event, lie: &Lying) -> Result<(), Broken> {
+    fn take_in(&mut self, event: &Event, lie: &Lying) -> Result<(), Broken> {
         match event {
             Event::Begun(machine) => {
-                self.making.insert(machine, Vec::new());
+                self.making.insert(*machine, Vec::new());
             }
-            Event::Seen(machine, name) => {
-                self.making.entry(machine).or_default().push(name);
-                if let Some(idle) = &mut self.idle {
-                    idle.remove(&name);
-                }
+            Event::Added(machine, file) => {
+                let files = self.making.entry(*machine).or_default();
+                let place = format!("{:04}", files.len() + 1).into_bytes();
+                files.push(Kept {
+                    path: file.path.clone().unwrap_or(place),
+                    digest: file.digest,
+                    pieces: file.pieces.clone(),
+                });
+                self.are_seen_to(&file.pieces);
             }
+            Event::Tried(pieces) => self.are_seen_to(pieces),
             Event::Named(machine, number) => {
-                let pieces = self.making.remove(&machine).unwrap_or_default();
-                if let Some(idle) = &mut self.idle {
-                    idle.retain(|name| !pieces.contains(name));
+                let files = self.making.remove(machine).unwrap_or_default();
+                for file in &files {
+                    self.are_seen_to(&file.pieces);
                 }
-                if !self.used.insert((machine, number)) {
-                    return Err(Broken::NumberTwice(machine, number));
+                if !self.used.insert((*machine, *number)) {
+                    return Err(Broken::NumberTwice(*machine, *number));
                 }
-                self.kept.insert((machine, number), pieces);
+                self.kept.insert((*machine, *number), files);
             }
             Event::BrokenOff(machine) | Event::Parted(machine) => {
-                self.making.remove(&machine);
+                self.making.remove(machine);
             }
             Event::LetGo(machine, number) => {
-                self.kept.remove(&(machine, number));
+                self.kept.remove(&(*machine, *number));
             }
             Event::Looked => {
-                self.had_at_look = self.kept.values().flatten().copied().collect();
+                let files = self.kept.values().flatten();
+                self.had_at_look = files.flat_map(|file| file.pieces.clone()).collect();
                 let idle = lie.place.keys().copied();
                 let idle = idle.filter(|name| !self.had_at_look.contains(name));
                 self.idle = Some(idle.collect());
             }
             Event::Stopped => self.idle = None,
-            Event::PutAside(_) | Event::Ending | Event::Other => {}
+            Event::PutAside(_) | Event::Ending | Event::Damaged | Event::Other => {}
         }
         Ok(())
     }
 
-    /// The days in the store are those that were named and not let go, with the
-    /// pieces that their machines had seen to.
+    /// These are no longer what nobody has seen to and no day has had.
+    fn are_seen_to(&mut self, pieces: &[Digest]) {
+        if let Some(idle) = &mut self.idle {
+            for name in pieces {
+                idle.remove(name);
+            }
+        }
+    }
+
+    /// The days in the store are those that were named and not let go, with the files
+    /// that their machines had added.
     fn check_days(&self, world: &World) -> Result<(), Broken> {
         let days = &world.machines.store.days;
-        for (day, pieces) in &self.kept {
-            if days.get(day) != Some(pieces) {
-                return Err(Broken::Changed(day.0, day.1));
+        for (&(machine, number), files) in &self.kept {
+            let bytes = days.get(&(machine, number));
+            let listed = bytes.and_then(|bytes| Store::files(machine, number, bytes));
+            let listed = listed.ok_or(Broken::Changed(machine, number))?;
+            let listed = listed.iter().map(|file| (&file.path, &file.pieces));
+            if !listed.eq(files.iter().map(|file| (&file.path, &file.pieces))) {
+                return Err(Broken::Changed(machine, number));
             }
         }
         match days.keys().find(|day| !self.kept.contains_key(day)) {
@@ -248,17 +309,43 @@ impl Checker {
         }
     }
 
+    /// Each file of each kept day is had back with its very bytes. Where nothing has
+    /// changed since, that is not tried again.
+    fn check_files(&mut self, world: &World, lie: &Lying) -> Result<(), Broken> {
+        if *lie != self.lay {
+            self.had_back.clear();
+        }
+        let store = &world.machines.store;
+        for (&(machine, number), files) in &self.kept {
+            let day = store.days.get(&(machine, number));
+            if self.had_back.get(&(machine, number)) == day {
+                continue;
+            }
+            for file in files {
+                let bytes = back(store, machine, number, &file.path);
+                if bytes.map(|bytes| sha256(&bytes)) != Ok(file.digest) {
+                    let path = file.path.clone();
+                    return Err(Broken::NotBack(machine, number, path));
+                }
+            }
+            let day = day.cloned().unwrap_or_default();
+            self.had_back.insert((machine, number), day);
+        }
+        Ok(())
+    }
+
     /// Each piece that is needed, and by what.
     fn needed(&self) -> impl Iterator<Item = (Owner, &Digest)> {
-        let kept = self.kept.iter().flat_map(|(&(machine, number), pieces)| {
+        let kept = self.kept.iter().flat_map(|(&(machine, number), files)| {
             let owner = Owner::Day(machine, number);
-            pieces.iter().map(move |name| (owner, name))
+            files.iter().map(move |file| (owner, file))
         });
-        let making = self.making.iter().flat_map(|(&machine, pieces)| {
+        let making = self.making.iter().flat_map(|(&machine, files)| {
             let owner = Owner::Making(machine);
-            pieces.iter().map(move |name| (owner, name))
+            files.iter().map(move |file| (owner, file))
         });
-        kept.chain(making)
+        let files = kept.chain(making);
+        files.flat_map(|(owner, file)| file.pieces.iter().map(move |name| (owner, name)))
     }
 
     /// What was aside and is neither there nor in its place is not needed.
@@ -293,7 +380,7 @@ impl Checker {
     }
 
     /// What is left to put aside, and what was just put aside.
-    fn check_putting_aside(&self, event: Event, world: &World, lie: &Lying) -> Result<(), Broken> {
+    fn check_putting_aside(&self, event: &Event, world: &World, lie: &Lying) -> Result<(), Broken> {
         let left = match &world.sweeper.point {
             Point::PutsAside(left) => left,
             _ => &world.sweeper.late,
@@ -302,19 +389,19 @@ impl Checker {
             return Err(Broken::HadAtLook(*name));
         }
         if let Event::PutAside(name) = event {
-            if self.had_at_look.contains(&name) {
-                return Err(Broken::HadAtLook(name));
+            if self.had_at_look.contains(name) {
+                return Err(Broken::HadAtLook(*name));
             }
-            if lie.place.contains_key(&name) || !lie.aside.contains_key(&name) {
-                return Err(Broken::NotPutAside(name));
+            if lie.place.contains_key(name) || !lie.aside.contains_key(name) {
+                return Err(Broken::NotPutAside(*name));
             }
         }
         Ok(())
     }
 
     /// What there is once a sweep has ended.
-    fn check_end(&mut self, event: Event, world: &World, lie: &Lying) -> Result<(), Broken> {
-        if event != Event::Ending || world.sweeper.point != Point::Rests {
+    fn check_end(&mut self, event: &Event, world: &World, lie: &Lying) -> Result<(), Broken> {
+        if *event != Event::Ending || world.sweeper.point != Point::Rests {
             return Ok(());
         }
         if let Some(name) = lie.aside.keys().next() {
@@ -331,11 +418,35 @@ impl Checker {
 #[cfg(test)]
 mod tests {
     use super::*;
+    use crate::dayfile::{self, File};
 
     const A: &[u8] = b"a";
     const B: &[u8] = b"b";
 
+    /// A file that is one piece, whose path is its place.
+    fn given(piece: &[u8]) -> Given {
+        Given {
+            path: None,
+            digest: sha256(piece),
+            pieces: vec![sha256(piece)],
+        }
+    }
+
+    /// The file of a day with these files.
+    fn day(machine: u8, number: u32, files: &[File]) -> Vec<u8> {
+        dayfile::write(machine, number, files)
+    }
+
+    fn file(path: &[u8], piece: &[u8]) -> File {
+        File {
+            path: path.to_vec(),
+            length: piece.len() as u32,
+            pieces: vec![sha256(piece)],
+        }
+    }
+
     /// A world with its checker. What a step would do is done to the store by hand.
+    #[derive(Clone)]
     struct Play {
         world: World,
         checker: Checker,
@@ -358,14 +469,14 @@ mod tests {
             machines.name(0).expect("it has raised");
             let events = [
                 Event::Begun(0),
-                Event::Seen(0, sha256(A)),
+                Event::Added(0, given(A)),
                 Event::Begun(1),
-                Event::Seen(1, sha256(B)),
+                Event::Added(1, given(B)),
             ];
             for event in events {
                 let lie = Lying::of(&play.world);
                 play.checker
-                    .take_in(event, &lie)
+                    .take_in(&event, &lie)
                     .expect("no number is used");
             }
             assert_eq!(play.check(Event::Named(0, 1)), Ok(()));
@@ -373,7 +484,7 @@ mod tests {
         }
 
         fn check(&mut self, event: Event) -> Result<(), Broken> {
-            self.checker.check(event, &self.world)
+            self.checker.check(&event, &self.world)
         }
 
         /// A look that finds these to put aside.
@@ -473,12 +584,22 @@ mod tests {
         assert_eq!(play.check(Event::LetGo(0, 2)), changed);
         assert_eq!(play.check(Event::LetGo(1, 1)), changed);
 
-        let mut play = Play::new();
-        play.world.machines.store.days.insert((0, 1), vec![]);
-        assert_eq!(play.check(Event::Other), changed);
+        for bytes in [
+            vec![],
+            day(0, 1, &[]),
+            day(0, 1, &[file(b"0002", A)]),
+            day(0, 1, &[file(b"0001", B)]),
+            day(0, 1, &[file(b"0001", A), file(b"0002", A)]),
+            day(0, 2, &[file(b"0001", A)]),
+        ] {
+            let mut play = Play::new();
+            play.world.machines.store.days.insert((0, 1), bytes);
+            assert_eq!(play.check(Event::Other), changed);
+        }
 
         let mut play = Play::new();
-        play.world.machines.store.days.insert((1, 1), vec![]);
+        let days = &mut play.world.machines.store.days;
+        days.insert((1, 1), day(1, 1, &[]));
         assert_eq!(play.check(Event::Other), Err(Broken::Changed(1, 1)));
 
         // The answer says that it was let go, and it is there.
@@ -487,8 +608,44 @@ mod tests {
 
         // A day that is named lacks what its machine has seen to.
         let mut play = Play::new();
-        play.world.machines.store.days.insert((1, 1), vec![]);
+        let days = &mut play.world.machines.store.days;
+        days.insert((1, 1), day(1, 1, &[]));
         assert_eq!(play.check(Event::Named(1, 1)), Err(Broken::Changed(1, 1)));
+    }
+
+    /// A day lists another length than the file has; and what was given was another
+    /// file, of the same pieces.
+    #[test]
+    fn files_that_are_not_had_back() {
+        let not_back = Err(Broken::NotBack(0, 1, b"0001".to_vec()));
+        let mut play = Play::new();
+        let mut listed = file(b"0001", A);
+        listed.length += 1;
+        let days = &mut play.world.machines.store.days;
+        days.insert((0, 1), day(0, 1, &[listed]));
+        assert_eq!(play.check(Event::Other), not_back);
+
+        let mut play = Play::new();
+        let files = play.checker.kept.get_mut(&(0, 1)).expect("it is kept");
+        files[0].digest = sha256(B);
+        // It is tried again once something lies elsewhere.
+        assert_eq!(
+            play.checker.clone().check(&Event::Other, &play.world),
+            Ok(())
+        );
+        play.world.machines.store.put_aside(sha256(B));
+        assert_eq!(play.check(Event::Other), not_back);
+    }
+
+    #[test]
+    fn damage() {
+        let mut play = Play::new();
+        let store = &mut play.world.machines.store;
+        store.place.clear();
+        store.days.clear();
+        assert!(play.clone().check(Event::Other).is_err());
+        assert_eq!(play.check(Event::Damaged), Ok(()));
+        assert_eq!(play.check(Event::Other), Ok(()));
     }
 
     #[test]
@@ -537,7 +694,8 @@ mod tests {
         // What a machine has seen to since, or a day has had, may be in its place.
         // So may all after a stop.
         for event in [
-            Event::Seen(1, sha256(B)),
+            Event::Added(1, given(B)),
+            Event::Tried(vec![sha256(A), sha256(B)]),
             Event::Named(1, 1),
             Event::Stopped,
         ] {
@@ -545,7 +703,7 @@ mod tests {
             assert_eq!(play.look(&[B]), Ok(()));
             if event == Event::Named(1, 1) {
                 let days = &mut play.world.machines.store.days;
-                days.insert((1, 1), vec![sha256(B)]);
+                days.insert((1, 1), day(1, 1, &[file(b"0001", B)]));
             }
             assert_eq!(play.check(event), Ok(()));
             play.world.sweeper.point = Point::Rests;
@@ -569,6 +727,10 @@ mod tests {
             (
                 Broken::NumberTwice(1, 2),
                 "no number is used for two days: day 1 2".to_owned(),
+            ),
+            (
+                Broken::NotBack(1, 2, b"a ".to_vec()),
+                "a file is had back as it was: that of day 1 2 whose path is 6120".to_owned(),
             ),
         ] {
             assert_eq!(broken.to_string(), words);

@@ -2,19 +2,28 @@
 //! `docs/REHEARSE.md` lists them.
 
 use crate::cutting::{MAX_FILE, MOST};
+use crate::dayfile::{MAX_FILES, MAX_PATH};
 use crate::store::MAX_LISTED;
 use std::fmt;
 
 #[derive(Clone, Copy, Debug, PartialEq, Eq)]
 pub enum Refusal {
     FileTooLong,
+    /// A path without bytes, or with too many.
+    NoPath,
+    PieceEmpty,
     PieceTooLong,
-    /// There is no such machine on the list, or no such day.
+    /// There is no such machine on the list, no such day, no such path in it, or
+    /// nothing to damage there.
     NotThere,
+    TooManyFiles,
+    /// A path that is not above the one before it in the day.
+    PathNotAbove,
     /// A day has that name already. No script gets here: a machine's number
     /// only rises, and a day has the number that was raised for it.
     NameTaken,
-    /// A day has a piece that is not there. No script gets here.
+    /// A day's file is not of the form, or a piece is not there, or the pieces of a
+    /// file have another length.
     DayDamaged,
     AlreadyMakesDay,
     MakesNoDay,
@@ -31,7 +40,13 @@ pub enum Refusal {
 impl Refusal {
     pub fn number(self) -> u8 {
         match self {
-            Refusal::FileTooLong | Refusal::PieceTooLong | Refusal::NotThere => 1,
+            Refusal::FileTooLong
+            | Refusal::NoPath
+            | Refusal::PieceEmpty
+            | Refusal::PieceTooLong
+            | Refusal::NotThere
+            | Refusal::TooManyFiles
+            | Refusal::PathNotAbove => 1,
             Refusal::NameTaken | Refusal::DayDamaged => 2,
             Refusal::AlreadyMakesDay
             | Refusal::MakesNoDay
@@ -49,8 +64,12 @@ impl fmt::Display for Refusal {
         write!(f, "refused by {}: ", self.number())?;
         match self {
             Refusal::FileTooLong => write!(f, "a file has at most {MAX_FILE} bytes"),
+            Refusal::NoPath => write!(f, "a path has from 1 to {MAX_PATH} bytes"),
+            Refusal::PieceEmpty => f.write_str("a piece has at least one byte"),
             Refusal::PieceTooLong => write!(f, "a piece has at most {MOST} bytes"),
             Refusal::NotThere => f.write_str("there is no such machine, day or path"),
+            Refusal::TooManyFiles => write!(f, "a day has at most {MAX_FILES} files"),
+            Refusal::PathNotAbove => f.write_str("a path must be above the one before it"),
             Refusal::NameTaken => f.write_str("there is a day of that number already"),
             Refusal::DayDamaged => f.write_str("a day is damaged or incomplete"),
             Refusal::AlreadyMakesDay => f.write_str("the machine already makes a day"),

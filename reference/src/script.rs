@@ -1,11 +1,13 @@
 //! The script of `rehearse`, as `docs/REHEARSE.md` describes it.
 
+use crate::back::back;
 use crate::cutting::{self, MAX_FILE, MOST};
 use crate::generator::Generator;
-use crate::machines::{Making, Seen};
-use crate::promise::{Broken, Checker, Event};
+use crate::machines::Seen;
+use crate::promise::{Broken, Checker, Event, Given};
 use crate::refusal::Refusal;
 use crate::sha256::{sha256, Digest, Sha256};
+use crate::store::Store;
 use crate::sweeper::{Moved, Point, Sweeper};
 use crate::variant::Variant;
 use crate::world::World;
@@ -37,10 +39,15 @@ enum Answer<'a> {
     Pieces(Vec<(usize, Digest)>),
     Begun,
     Seen(Seen),
+    /// How many pieces a file has, and how many of them were written.
+    Added(usize, usize),
     Raised(u32),
     Named(u32),
     BrokenOff,
     LetGo,
+    Bytes(Vec<u8>),
+    Flipped,
+    CutOff,
     Parted,
     /// How many pieces are to be put aside.
     Looked(usize),
@@ -67,10 +74,15 @@ impl Answer<'_> {
             Answer::Begun => writeln!(output, "begun"),
             Answer::Seen(Seen::Found(name)) => writeln!(output, "found {}", Hex(name)),
             Answer::Seen(Seen::Written(name)) => writeln!(output, "written {}", Hex(name)),
+            Answer::Added(count, written) => writeln!(output, "added {count}, written {written}"),
             Answer::Raised(number) => writeln!(output, "raised {number}"),
             Answer::Named(number) => writeln!(output, "named {number}"),
             Answer::BrokenOff => writeln!(output, "broken off"),
             Answer::LetGo => writeln!(output, "let go"),
+            Answer::Bytes(bytes) if bytes.is_empty() => writeln!(output, "0"),
+            Answer::Bytes(bytes) => writeln!(output, "{} {}", bytes.len(), Hex(bytes)),
+            Answer::Flipped => writeln!(output, "flipped"),
+            Answer::CutOff => writeln!(output, "cut"),
             Answer::Parted => writeln!(output, "parted"),
             Answer::Looked(count) => writeln!(output, "to put aside {count}"),
             Answer::PutAside(name) => writeln!(output, "put aside {}", Hex(name)),
@@ -103,17 +115,23 @@ fn write_all_there_is(world: &World, output: &mut impl Write) -> io::Result<()> 
     for name in &store.sweeper_listed {
         writeln!(output, "listed sweeper {}", Hex(name))?;
     }
-    for ((machine, number), names) in &store.days {
-        writeln!(output, "day {machine} {number}{}", Names(names))?;
+    for (&(machine, number), bytes) in &store.days {
+        match Store::files(machine, number, bytes) {
+            Some(files) => {
+                let names = Names(files.iter().flat_map(|file| &file.pieces));
+                writeln!(output, "day {machine} {number}{names}")?;
+            }
+            None => writeln!(output, "day {machine} {number} damaged")?,
+        }
     }
     for machine in MACHINES {
         write!(output, "machine {machine} {} ", store.highest(machine))?;
         match world.machines.making.get(&machine) {
             _ if !store.has_machine(machine) => writeln!(output, "parted")?,
             None => writeln!(output, "none")?,
-            Some(Making { pieces, number }) => match number {
-                None => writeln!(output, "makes{}", Names(pieces))?,
-                Some(number) => writeln!(output, "names {number}{}", Names(pieces))?,
+            Some(day) => match day.number {
+                None => writeln!(output, "makes{}", Names(day.pieces()))?,
+                Some(number) => writeln!(output, "names {number}{}", Names(day.pieces()))?,
             },
         }
     }
@@ -123,10 +141,10 @@ fn write_all_there_is(world: &World, output: &mut impl Write) -> io::Result<()> 
 fn write_sweeper(sweeper: &Sweeper, output: &mut impl Write) -> io::Result<()> {
     match &sweeper.point {
         Point::Rests => writeln!(output, "sweeper rests"),
-        Point::PutsAside(left) => writeln!(output, "sweeper puts aside{}", Names(left)),
+        Point::PutsAside(left) => writeln!(output, "sweeper puts aside{}", Names(left.iter())),
         Point::Waits(noted) => writeln!(output, "sweeper waits{}", Noted(noted)),
         Point::Ends { back, away } => {
-            let (back, away) = (Names(back), Names(away));
+            let (back, away) = (Names(back.iter()), Names(away.iter()));
             writeln!(output, "sweeper ends, back{back}, away{away}")
         }
         Point::DecidesAnew => writeln!(output, "sweeper is to decide anew"),
@@ -134,14 +152,11 @@ fn write_sweeper(sweeper: &Sweeper, output: &mut impl Write) -> io::Result<()> {
 }
 
 /// Names with a space before each.
-struct Names<'a, T>(&'a T);
+struct Names<T>(T);
 
-impl<'a, T> fmt::Display for Names<'a, T>
-where
-    &'a T: IntoIterator<Item = &'a Digest>,
-{
+impl<'a, T: Iterator<Item = &'a Digest> + Clone> fmt::Display for Names<T> {
     fn fmt(&self, f: &mut fmt::Formatter) -> fmt::Result {
-        for name in self.0 {
+        for name in self.0.clone() {
             write!(f, " {}", Hex(name))?;
         }
         Ok(())
@@ -248,7 +263,8 @@ impl fmt::Display for Quoted<'_> {
 /// How a script is played.
 #[derive(Clone, Copy, Debug, Default, PartialEq, Eq)]
 pub struct Manner {
-    /// Whether the promise is checked after each line.
+    /// Whether the promise is checked after each line, up to the first one that damages
+    /// something.
     pub check: bool,
     /// A wrong rule to play by.
     pub variant: Option<Variant>,
@@ -292,20 +308,19 @@ pub fn play(input: impl Read, output: impl Write, manner: Manner) -> Result<(), 
         let answer = match next_line(&mut input, &mut line)? {
             Next::End => return Ok(output.flush()?),
             Next::Line => answer(&line, &mut world),
-            Next::TooLong => Some(Err(Fault::TooLong)),
+            Next::TooLong => Some((Event::Other, Err(Fault::TooLong))),
         };
         number += 1;
         let mut event = Event::Other;
-        match answer {
-            None => {}
-            Some(Ok((done, answer))) => {
-                event = done;
-                answer.write(&mut output)?;
+        if let Some((done, answer)) = answer {
+            event = done;
+            match answer {
+                Ok(answer) => answer.write(&mut output)?,
+                Err(fault) => writeln!(output, "line {number}: {fault}")?,
             }
-            Some(Err(fault)) => writeln!(output, "line {number}: {fault}")?,
         }
         if let Some(checker) = &mut checker {
-            if let Err(broken) = checker.check(event, &world) {
+            if let Err(broken) = checker.check(&event, &world) {
                 output.flush()?;
                 return Err(Failure::Broken(number, broken));
             }
@@ -354,19 +369,40 @@ fn next_line(input: &mut impl BufRead, line: &mut Vec<u8>) -> io::Result<Next> {
     }
 }
 
-/// What is to be written for a line of an allowed length, and what was done;
-/// `None` is nothing.
+/// What was done, and what is to be written for a line of an allowed length; `None` is
+/// nothing.
 fn answer<'a>(
     line: &'a [u8],
     world: &'a mut World,
-) -> Option<Result<(Event, Answer<'a>), Fault<'a>>> {
+) -> Option<(Event, Result<Answer<'a>, Fault<'a>>)> {
     let line = line.strip_suffix(b"\r").unwrap_or(line);
     let mut words = line
         .split(|byte| matches!(byte, b' ' | b'\t'))
         .filter(|word| !word.is_empty());
     match words.next()? {
         [b'#', ..] => None,
-        name => Some(Step::parse(name, words).and_then(|step| Ok(step.play(world)?))),
+        name => Some(match Step::parse(name, words) {
+            Err(fault) => (Event::Other, Err(fault)),
+            Ok(step) => match step.play(world) {
+                Ok((event, answer)) => (event, Ok(answer)),
+                Err(Refused { refusal, event }) => (event, Err(refusal.into())),
+            },
+        }),
+    }
+}
+
+/// Why a step is refused, and what it has done all the same.
+struct Refused {
+    refusal: Refusal,
+    event: Event,
+}
+
+impl From<Refusal> for Refused {
+    fn from(refusal: Refusal) -> Self {
+        Refused {
+            refusal,
+            event: Event::Other,
+        }
     }
 }
 
@@ -376,10 +412,17 @@ enum Step<'a> {
     Cut(Bytes<'a>),
     Begin(u32),
     See(u32, Bytes<'a>),
+    File(u32, &'a [u8], Bytes<'a>),
     Raise(u32),
     Name(u32),
     Break(u32),
     Go(u32, u32),
+    Back(u32, u32, &'a [u8]),
+    Bytes(u32, u32),
+    FlipPlace(u32, Bytes<'a>),
+    FlipAside(u32, Bytes<'a>),
+    FlipDay(u32, u32, u32),
+    CutDay(u32, u32, u32),
     Part(u32),
     Look,
     Aside,
@@ -401,15 +444,46 @@ impl<'a> Step<'a> {
                 let machine = words.next().ok_or(Fault::NotTheLine("see M BYTES"))?;
                 Step::See(parse_number(machine, u32::MAX)?, Bytes::parse(words)?)
             }
+            b"file" => {
+                let (Some(machine), Some(path)) = (words.next(), words.next()) else {
+                    return Err(Fault::NotTheLine("file M PATH BYTES"));
+                };
+                let machine = parse_number(machine, u32::MAX)?;
+                Step::File(machine, path, Bytes::parse(words)?)
+            }
             b"raise" => Step::Raise(parse_machine(words, "raise M")?),
             b"name" => Step::Name(parse_machine(words, "name M")?),
             b"break" => Step::Break(parse_machine(words, "break M")?),
             b"go" => {
-                let [machine, number] = exactly(words, "go M N")?;
-                Step::Go(
-                    parse_number(machine, u32::MAX)?,
-                    parse_number(number, u32::MAX)?,
-                )
+                let [machine, number] = numbers(exactly(words, "go M N")?)?;
+                Step::Go(machine, number)
+            }
+            b"back" => {
+                let [machine, number, path] = exactly(words, "back M N PATH")?;
+                let [machine, number] = numbers([machine, number])?;
+                Step::Back(machine, number, path)
+            }
+            b"bytes" => {
+                let [machine, number] = numbers(exactly(words, "bytes M N")?)?;
+                Step::Bytes(machine, number)
+            }
+            b"flip-place" => {
+                let at = words.next();
+                let at = at.ok_or(Fault::NotTheLine("flip-place AT BYTES"))?;
+                Step::FlipPlace(parse_number(at, u32::MAX)?, Bytes::parse(words)?)
+            }
+            b"flip-aside" => {
+                let at = words.next();
+                let at = at.ok_or(Fault::NotTheLine("flip-aside AT BYTES"))?;
+                Step::FlipAside(parse_number(at, u32::MAX)?, Bytes::parse(words)?)
+            }
+            b"flip-day" => {
+                let [machine, number, at] = numbers(exactly(words, "flip-day M N AT")?)?;
+                Step::FlipDay(machine, number, at)
+            }
+            b"cut-day" => {
+                let [machine, number, length] = numbers(exactly(words, "cut-day M N LENGTH")?)?;
+                Step::CutDay(machine, number, length)
             }
             b"part" => Step::Part(parse_machine(words, "part M")?),
             b"look" => Step::alone(Step::Look, words, "look")?,
@@ -433,7 +507,7 @@ impl<'a> Step<'a> {
         Ok(self)
     }
 
-    fn play(self, world: &mut World) -> Result<(Event, Answer<'_>), Refusal> {
+    fn play(self, world: &mut World) -> Result<(Event, Answer<'_>), Refused> {
         let World { machines, sweeper } = world;
         let store = &mut machines.store;
         Ok(match self {
@@ -446,8 +520,29 @@ impl<'a> Step<'a> {
             Step::See(machine, piece) => {
                 let piece = piece.at_most(MOST).ok_or(Refusal::PieceTooLong)?;
                 let seen = machines.see(machine, &piece)?;
-                let (Seen::Found(name) | Seen::Written(name)) = seen;
-                (Event::Seen(machine, name), Answer::Seen(seen))
+                let given = Given {
+                    path: None,
+                    digest: sha256(&piece),
+                    pieces: vec![seen.name()],
+                };
+                (Event::Added(machine, given), Answer::Seen(seen))
+            }
+            Step::File(machine, path, file) => {
+                let file = file.at_most(MAX_FILE).ok_or(Refusal::FileTooLong)?;
+                let names = |seen: &[Seen]| seen.iter().map(|seen| seen.name()).collect();
+                let seen = machines.add(machine, path, &file);
+                let seen = seen.map_err(|not_added| Refused {
+                    refusal: not_added.refusal,
+                    event: Event::Tried(names(&not_added.seen)),
+                })?;
+                let written = seen.iter().filter(|seen| matches!(seen, Seen::Written(_)));
+                let answer = Answer::Added(seen.len(), written.count());
+                let given = Given {
+                    path: Some(path.to_vec()),
+                    digest: sha256(&file),
+                    pieces: names(&seen),
+                };
+                (Event::Added(machine, given), answer)
             }
             Step::Raise(machine) => (Event::Other, Answer::Raised(machines.raise(machine)?)),
             Step::Name(machine) => {
@@ -461,6 +556,36 @@ impl<'a> Step<'a> {
             Step::Go(machine, number) => {
                 store.let_go(machine, number)?;
                 (Event::LetGo(machine, number), Answer::LetGo)
+            }
+            Step::Back(machine, number, path) => {
+                let bytes = back(store, machine, number, path)?;
+                (Event::Other, Answer::Bytes(bytes))
+            }
+            Step::Bytes(machine, number) => {
+                let bytes = store.days.get(&(machine, number));
+                let bytes = bytes.ok_or(Refusal::NotThere)?;
+                (Event::Other, Answer::Bytes(bytes.clone()))
+            }
+            Step::FlipPlace(at, piece) => {
+                flip(piece_of(&mut store.place, &piece), at)?;
+                (Event::Damaged, Answer::Flipped)
+            }
+            Step::FlipAside(at, piece) => {
+                flip(piece_of(&mut store.aside, &piece), at)?;
+                (Event::Damaged, Answer::Flipped)
+            }
+            Step::FlipDay(machine, number, at) => {
+                flip(store.days.get_mut(&(machine, number)), at)?;
+                (Event::Damaged, Answer::Flipped)
+            }
+            Step::CutDay(machine, number, length) => {
+                let bytes = store.days.get_mut(&(machine, number));
+                let bytes = bytes.ok_or(Refusal::NotThere)?;
+                if length as usize > bytes.len() {
+                    return Err(Refusal::NotThere.into());
+                }
+                bytes.truncate(length as usize);
+                (Event::Damaged, Answer::CutOff)
             }
             Step::Part(machine) => {
                 machines.part(machine)?;
@@ -505,6 +630,33 @@ fn parse_machine<'a>(
 ) -> Result<u32, Fault<'a>> {
     let [machine] = exactly(words, line)?;
     parse_number(machine, u32::MAX)
+}
+
+/// The numbers that these words are.
+fn numbers<'a, const N: usize>(words: [&'a [u8]; N]) -> Result<[u32; N], Fault<'a>> {
+    let mut numbers = [0; N];
+    for (number, word) in numbers.iter_mut().zip(words) {
+        *number = parse_number(word, u32::MAX)?;
+    }
+    Ok(numbers)
+}
+
+/// What lies under the name of the piece of these bytes. There is none of more bytes
+/// than a piece may have.
+fn piece_of<'a>(
+    pieces: &'a mut BTreeMap<Digest, Vec<u8>>,
+    bytes: &Bytes,
+) -> Option<&'a mut Vec<u8>> {
+    let piece = bytes.at_most(MOST)?;
+    pieces.get_mut(&sha256(&piece))
+}
+
+/// Turns round each bit of a byte of what lies there.
+fn flip(bytes: Option<&mut Vec<u8>>, at: u32) -> Result<(), Refusal> {
+    let byte = bytes.and_then(|bytes| bytes.get_mut(at as usize));
+    let byte = byte.ok_or(Refusal::NotThere)?;
+    *byte = !*byte;
+    Ok(())
 }
 
 /// The answer to `digest`.
@@ -651,6 +803,7 @@ mod tests {
 
     const EMPTY: &str = "e3b0c44298fc1c149afbf4c8996fb92427ae41e4649b934ca495991b7852b855\n";
     const ABC: &str = "ba7816bf8f01cfea414140de5dae2223b00361a396177a9cb410ff61f20015ad\n";
+    const A: &str = "ca978112ca1bbdcafac231b39a23dc4da786eff8147c4e72b9807785afee48bb\n";
     const USAGE: &str =
         "line 1: write bytes as HEX, as 'repeat BYTE COUNT' or as 'random SEED COUNT'\n";
     const FILE_TOO_LONG: &str = "line 1: refused by 1: a file has at most 16777216 bytes\n";
@@ -879,32 +1032,32 @@ mod tests {
         );
         let places = format!(
             "place NAME 3\n\
-             place {} 0\n\
+             place {} 1\n\
              listed 1 {}\n\
              listed 3 NAME\n",
-            EMPTY.trim_end(),
-            EMPTY.trim_end()
+            A.trim_end(),
+            A.trim_end()
         );
         machines_answer(
-            "begin 3\nsee 3 616263\nsee 3 616263\nraise 3\nname 3\nbegin 1\nsee 1\n\
+            "begin 3\nsee 3 616263\nsee 3 616263\nraise 3\nname 3\nbegin 1\nsee 1 61\n\
              begin 3\nraise 3\nbegin 0\nshow\n\
-             see 0 616263\nraise 0\nname 3\nbreak 1\nbegin 1\nsee 1 616263\nsee 1\nshow\n",
+             see 0 616263\nraise 0\nname 3\nbreak 1\nbegin 1\nsee 1 616263\nsee 1 61\nshow\n",
             &format!(
-                "begun\nwritten NAME\nfound NAME\nraised 1\nnamed 1\nbegun\nwritten {EMPTY}\
+                "begun\nwritten NAME\nfound NAME\nraised 1\nnamed 1\nbegun\nwritten {A}\
                  begun\nraised 2\nbegun\n\
                  {places}\
                  day 3 1 NAME NAME\n\
                  machine 0 0 makes\n\
-                 machine 1 0 makes {EMPTY}\
+                 machine 1 0 makes {A}\
                  machine 2 0 none\n\
                  machine 3 2 names 2\n\
                  sweeper rests\n\
-                 found NAME\nraised 1\nnamed 2\nbroken off\nbegun\nfound NAME\nfound {EMPTY}\
+                 found NAME\nraised 1\nnamed 2\nbroken off\nbegun\nfound NAME\nfound {A}\
                  {places}\
                  day 3 1 NAME NAME\n\
                  day 3 2\n\
                  machine 0 1 names 1 NAME\n\
-                 machine 1 0 makes NAME {EMPTY}\
+                 machine 1 0 makes NAME {A}\
                  machine 2 0 none\n\
                  machine 3 2 none\n\
                  sweeper rests\n"
@@ -932,10 +1085,10 @@ mod tests {
         };
         let check = |script: &str, sweeper: &str| {
             let sweeper = sweeper.replace("NAME", ABC.trim_end());
-            let sweeper = sweeper.replace("NO", EMPTY.trim_end());
+            let sweeper = sweeper.replace("NO", A.trim_end());
             assert_eq!(last(script), Some(format!("sweeper {sweeper}")));
         };
-        let script = "begin 1\nsee 1\nsee 1 616263\nraise 1\nlook";
+        let script = "begin 1\nsee 1 61\nsee 1 616263\nraise 1\nlook";
         check(script, "puts aside NAME NO");
         let script = &format!("{script}\naside");
         check(script, "puts aside NO");
@@ -957,16 +1110,16 @@ mod tests {
         machines_answer(
             &format!("{script}\nshow"),
             &format!(
-                "begun\nwritten {EMPTY}written NAME\nraised 1\nto put aside 2\n\
-                 put aside NAME\nput aside {EMPTY}parted\nnoted\nstopped\n\
+                "begun\nwritten {A}written NAME\nraised 1\nto put aside 2\n\
+                 put aside NAME\nput aside {A}parted\nnoted\nstopped\n\
                  begun\nraised 1\nnamed 1\nparted\nbegun\nwritten NAME\nraised 1\nnamed 1\n\
-                 to put back 1, to throw away 1\nput back NAME\nthrown away {EMPTY}\
+                 to put back 1, to throw away 1\nput back NAME\nthrown away {A}\
                  place NAME 3\n\
                  listed 1 NAME\n\
-                 listed 1 {EMPTY}\
+                 listed 1 {A}\
                  listed 2 NAME\n\
                  listed sweeper NAME\n\
-                 listed sweeper {EMPTY}\
+                 listed sweeper {A}\
                  day 0 1\n\
                  day 2 1 NAME\n\
                  machine 0 1 none\n\
@@ -987,10 +1140,132 @@ mod tests {
         );
     }
 
+    /// A day of files, what lies under its name, and its files as they are had back.
+    #[test]
+    fn files() {
+        let day = |files: &[(&[u8], &[u8])], number| {
+            let files = files.iter().map(|(path, bytes)| crate::dayfile::File {
+                path: path.to_vec(),
+                length: bytes.len() as u32,
+                pieces: cutting::pieces(bytes)
+                    .map_or(vec![], |pieces| pieces.into_iter().map(sha256).collect()),
+            });
+            crate::dayfile::write(1, number, &files.collect::<Vec<_>>())
+        };
+        let shown = |bytes: &[u8]| format!("{} {}", bytes.len(), Hex(bytes));
+        let zeros = &[0; 5_000][..];
+        let first = day(&[], 1);
+        let second = day(
+            &[
+                (b"!\xff", b""),
+                (b"/a", zeros),
+                (b"0003", b"abc"),
+                (b"0004", b"a"),
+            ],
+            2,
+        );
+        let script = b"begin 1\nraise 1\nname 1\nbytes 1 1\nback 1 1 x\n\
+            begin 1\nfile 1 !\xff\nfile 01 /a repeat 00 5000\nsee 1 616263\nfile 1 0004 61\n\
+            raise 1\nname 1\nbytes 1 2\nback 1 2 !\xff\nback 1 2 /a\nback 01 002 0003\n\
+            part 1\nback 1 2 0004\ngo 1 2\nback 1 2 0004";
+        let absent = "refused by 1: there is no such machine, day or path";
+        let expected = format!(
+            "begun\nraised 1\nnamed 1\n{}\nline 5: {absent}\n\
+             begun\nadded 0, written 0\nadded 3, written 2\nwritten {ABC}added 1, written 1\n\
+             raised 2\nnamed 2\n{}\n0\n{}\n3 616263\nparted\n1 61\nlet go\nline 20: {absent}\n",
+            shown(&first),
+            shown(&second),
+            shown(zeros),
+        );
+        answers(script, &expected);
+        let manner = Manner {
+            check: true,
+            variant: None,
+        };
+        assert_eq!(played_as(&script[..], manner), expected);
+    }
+
+    #[test]
+    fn damage() {
+        let last = |script: &str| {
+            let answers = played(script.as_bytes());
+            let answer = answers.lines().last().map(str::to_owned);
+            answer.expect("there is an answer")
+        };
+        let day = "begin 0\nfile 0 a 616263\nraise 0\nname 0\n";
+        let bytes = last(&format!("{day}bytes 0 1"));
+        let check = |lines: &str, answer: &str| {
+            let answer = answer.replace("BYTES", &bytes);
+            assert_eq!(last(&format!("{day}{lines}")), answer, "{lines}");
+        };
+        let damaged = &format!(
+            "line {}: refused by 2: a day is damaged or incomplete",
+            day.lines().count() + 2
+        );
+        let absent = &format!(
+            "line {}: refused by 1: there is no such machine, day or path",
+            day.lines().count() + 1
+        );
+        check("flip-place 2 616263\nback 0 1 a", damaged);
+        check("flip-place 2 616263\nlook", damaged);
+        check("flip-place 2 616263\ndecide", damaged);
+        check(
+            "flip-place 0 616263\nflip-place 0 616263\nback 0 1 a",
+            "3 616263",
+        );
+        check("flip-place 3 616263", absent);
+        check("flip-place 0 616264", absent);
+        check("flip-place 0", absent);
+        check("flip-place 0 repeat 61 65537", absent);
+        check("flip-aside 0 616263", absent);
+        for at in [0, 5, 50, 79] {
+            check(&format!("flip-day 0 1 {at}\nback 0 1 a"), damaged);
+            check(&format!("flip-day 0 1 {at}\nback 0 1 b"), damaged);
+            check(&format!("flip-day 0 1 {at}\nlook"), damaged);
+            check(
+                &format!("flip-day 0 1 {at}\nflip-day 0 1 {at}\nbytes 0 1"),
+                "BYTES",
+            );
+            check(&format!("cut-day 0 1 {at}\nback 0 1 a"), damaged);
+            check(
+                &format!("cut-day 0 1 {at}\nflip-day 0 1 {at}\ngo 0 1"),
+                "let go",
+            );
+        }
+        assert!(bytes.starts_with("80 4400000000010001"));
+        check("flip-day 0 1 80", absent);
+        check("flip-day 0 2 0", absent);
+        check("flip-day 4 1 0", absent);
+        check("cut-day 0 1 80\nbytes 0 1", "BYTES");
+        check("cut-day 0 1 81", absent);
+        check("cut-day 0 2 0", absent);
+        check("cut-day 0 1 0\nbytes 0 1", "0");
+        check("flip-day 0 1 4294967295", absent);
+        let shown = played(format!("{day}flip-day 0 1 0\nshow").as_bytes());
+        assert!(shown.contains("\nday 0 1 damaged\nmachine 0 1 none\n"));
+        // The promise is checked up to the damage, and no longer.
+        let manner = Manner {
+            check: true,
+            variant: None,
+        };
+        let script = format!("{day}flip-place 0 616263\nlook\nflip-day 0 1 0\nshow");
+        assert_eq!(
+            played_as(script.as_bytes(), manner),
+            played(script.as_bytes())
+        );
+    }
+
     #[test]
     fn refusals() {
         let absent = "refused by 1: there is no such machine, day or path";
         let long = "refused by 1: a piece has at most 65536 bytes";
+        let empty = "refused by 1: a piece has at least one byte";
+        let long_file = "refused by 1: a file has at most 16777216 bytes";
+        let no_path = "refused by 1: a path has from 1 to 255 bytes";
+        let not_above = "refused by 1: a path must be above the one before it";
+        let longest = &format!("file 0 {} 61", "z".repeat(255));
+        let longer = &format!("file 4 {} 61", "z".repeat(256));
+        let both = &format!("file 4 {} repeat 61 16777217", "z".repeat(256));
         let again = "refused by 3: the machine already makes a day";
         let none = "refused by 3: the machine makes no day";
         let raised =
@@ -1028,6 +1303,25 @@ mod tests {
             ("begin 0\nraise 0", "see 0 repeat 61 65537", long),
             ("", "see 0 random 1 1073741824", long),
             ("", "see 4 repeat 61 65537", long),
+            ("", "see 0", empty),
+            ("", "see 4 repeat 61 0", empty),
+            ("begin 0\nfile 0 z\nraise 0", "see 0 random 1 0", empty),
+            ("", "file 4 a 61", absent),
+            ("", "file 4 a repeat 61 16777217", long_file),
+            ("", longer, no_path),
+            ("", both, long_file),
+            ("", longest, none),
+            ("begin 0\nraise 0", longest, raised),
+            ("begin 0\nfile 0 a", "file 0 a 61", not_above),
+            ("begin 0\nfile 0 a", "file 0 Z", not_above),
+            ("begin 0\nfile 0 z", "see 0 61", not_above),
+            ("begin 0\nfile 0 z\nraise 0", "see 0 61", not_above),
+            ("begin 0\nfile 0 0000\nraise 0", "see 0 61", raised),
+            ("begin 0\nfile 0 a", "back 0 1 a", absent),
+            ("begin 0\nfile 0 a", "bytes 0 1", absent),
+            ("begin 0\nfile 0 a\nraise 0\nname 0", "back 0 1 b", absent),
+            ("begin 0\nfile 0 a\nraise 0\nname 0", "back 0 0 a", absent),
+            ("", "bytes 4 1", absent),
             ("", "aside", point),
             ("", "note", point),
             ("", "decide", point),
@@ -1084,6 +1378,19 @@ mod tests {
             ("go 0 0 0", "go M N"),
             ("part", "part M"),
             ("part 0 0", "part M"),
+            ("file", "file M PATH BYTES"),
+            ("file x", "file M PATH BYTES"),
+            ("back 0 1", "back M N PATH"),
+            ("back 0 1 a b", "back M N PATH"),
+            ("bytes", "bytes M N"),
+            ("bytes 0", "bytes M N"),
+            ("bytes 0 1 1", "bytes M N"),
+            ("flip-place", "flip-place AT BYTES"),
+            ("flip-aside", "flip-aside AT BYTES"),
+            ("flip-day 0 1", "flip-day M N AT"),
+            ("flip-day 0 1 1 1", "flip-day M N AT"),
+            ("cut-day 0 1", "cut-day M N LENGTH"),
+            ("cut-day 0 1 1 1", "cut-day M N LENGTH"),
             ("look 0", "look"),
             ("aside x", "aside"),
             ("note 0 0", "note"),
@@ -1108,11 +1415,28 @@ mod tests {
                 format!("part {word}"),
                 format!("go {word} y"),
                 format!("go 0 {word}"),
+                format!("file {word} a"),
+                format!("file {word} a x y"),
+                format!("back {word} y a"),
+                format!("back 0 {word} a"),
+                format!("bytes {word} y"),
+                format!("bytes 0 {word}"),
+                format!("flip-place {word}"),
+                format!("flip-aside {word} x y"),
+                format!("flip-day {word} y z"),
+                format!("flip-day 0 {word} z"),
+                format!("flip-day 0 1 {word}"),
+                format!("cut-day {word} y z"),
+                format!("cut-day 0 {word} z"),
+                format!("cut-day 0 1 {word}"),
             ] {
                 answers(line.as_bytes(), &expected);
             }
         }
         answers(b"see 9 61 62", USAGE);
+        answers(b"file 9 a 61 62", USAGE);
+        answers(b"flip-place 9 61 62", USAGE);
+        answers(b"flip-aside 9 random 1", USAGE);
         answers(b"see 9 repeat 61", USAGE);
         answers(
             b"see 9 6g",

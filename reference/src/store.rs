@@ -1,6 +1,7 @@
 //! A store in memory, as `docs/STORE.md` has it: what it holds, and what is asked
 //! of it.
 
+use crate::dayfile::{self, File};
 use crate::refusal::Refusal;
 use crate::sha256::{sha256, Digest};
 use std::collections::{BTreeMap, BTreeSet};
@@ -23,8 +24,8 @@ pub struct Store {
     pub listed: BTreeSet<(u32, Digest)>,
     /// The names in the list of the sweeper.
     pub sweeper_listed: BTreeSet<Digest>,
-    /// The pieces of each day, by the day's machine and number.
-    pub days: BTreeMap<(u32, u32), Vec<Digest>>,
+    /// The bytes that lie under the name of each day, which is its machine and number.
+    pub days: BTreeMap<(u32, u32), Vec<u8>>,
     /// The highest number of each machine that has raised one.
     pub highest: BTreeMap<u32, u32>,
     /// What the sweeper does.
@@ -144,28 +145,30 @@ impl Store {
         self.highest.insert(machine, number);
     }
 
-    pub fn name_day(
-        &mut self,
-        machine: u32,
-        number: u32,
-        pieces: &[Digest],
-    ) -> Result<(), Refusal> {
+    pub fn name_day(&mut self, machine: u32, number: u32, bytes: &[u8]) -> Result<(), Refusal> {
         if self.days.contains_key(&(machine, number)) {
             return Err(Refusal::NameTaken);
         }
-        self.days.insert((machine, number), pieces.to_vec());
+        self.days.insert((machine, number), bytes.to_vec());
         Ok(())
     }
 
-    /// The machine, the number and the pieces of each day. Days are found by their
-    /// numbers, up to the highest of their machine.
-    pub fn each_day(&self) -> impl Iterator<Item = (u32, u32, &[Digest])> {
+    /// The machine and the number of each day, and the bytes that lie under its name.
+    /// Days are found by their numbers, up to the highest of their machine.
+    pub fn each_day(&self) -> impl Iterator<Item = (u32, u32, &[u8])> {
         (0..=LAST_MACHINE).flat_map(|machine| {
             let days = self.days.range((machine, 1)..);
             let last = (machine, self.highest(machine));
             let days = days.take_while(move |(&day, _)| day <= last);
-            days.map(|(&(machine, number), pieces)| (machine, number, &pieces[..]))
+            days.map(|(&(machine, number), bytes)| (machine, number, &bytes[..]))
         })
+    }
+
+    /// The files of a day under whose name these bytes lie; `None` where they are not
+    /// its day file.
+    pub fn files(machine: u32, number: u32, bytes: &[u8]) -> Option<Vec<File>> {
+        let machine = u8::try_from(machine).ok()?;
+        dayfile::read(machine, number, bytes)
     }
 
     pub fn let_go(&mut self, machine: u32, number: u32) -> Result<(), Refusal> {
@@ -322,9 +325,9 @@ mod tests {
     fn days() {
         let mut store = Store::new([0, 1]);
         assert_eq!(store.let_go(0, 1), Err(Refusal::NotThere));
-        assert_eq!(store.name_day(0, 1, &[name(1), name(1)]), Ok(()));
+        assert_eq!(store.name_day(0, 1, b"of the form or not"), Ok(()));
         assert_eq!(store.name_day(0, 1, &[]), Err(Refusal::NameTaken));
-        assert_eq!(store.days[&(0, 1)], [name(1), name(1)]);
+        assert_eq!(store.days[&(0, 1)], b"of the form or not");
         assert_eq!(store.name_day(1, 1, &[]), Ok(()));
         assert_eq!(store.let_go(0, 2), Err(Refusal::NotThere));
         assert_eq!(store.let_go(0, 1), Ok(()));

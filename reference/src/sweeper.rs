@@ -118,7 +118,7 @@ impl Sweeper {
                 let counts_raised = self.variant == Some(Variant::RaisedCounts);
                 check_days_since(store, noted, counts_raised)?;
                 if self.variant == Some(Variant::NewDaysOnly) {
-                    had = pieces_of_days_above(store, noted);
+                    had = pieces_of_days_above(store, noted)?;
                 }
             }
             Point::DecidesAnew => {}
@@ -164,12 +164,9 @@ impl Sweeper {
     }
 }
 
-/// The names that any day has. All of their pieces are read.
+/// The names that any day has. The files of all days are read, and all their pieces.
 fn pieces_of_days(store: &Store) -> Result<BTreeSet<Digest>, Refusal> {
-    let mut names = BTreeSet::new();
-    for (_, _, pieces) in store.each_day() {
-        names.extend(pieces);
-    }
+    let names = names_of(store.each_day())?;
     let is_there = |name| store.in_place(name) || store.is_aside(name);
     if names.iter().all(is_there) {
         Ok(names)
@@ -179,10 +176,25 @@ fn pieces_of_days(store: &Store) -> Result<BTreeSet<Digest>, Refusal> {
 }
 
 /// The names that days above the noted numbers have.
-fn pieces_of_days_above(store: &Store, noted: &BTreeMap<u32, u32>) -> BTreeSet<Digest> {
+fn pieces_of_days_above(
+    store: &Store,
+    noted: &BTreeMap<u32, u32>,
+) -> Result<BTreeSet<Digest>, Refusal> {
     let days = store.each_day();
     let days = days.filter(|&(machine, number, _)| number > number_of(noted, machine));
-    days.flat_map(|(_, _, pieces)| pieces).copied().collect()
+    names_of(days)
+}
+
+/// The names of the pieces of these days.
+fn names_of<'a>(
+    days: impl Iterator<Item = (u32, u32, &'a [u8])>,
+) -> Result<BTreeSet<Digest>, Refusal> {
+    let mut names = BTreeSet::new();
+    for (machine, number, bytes) in days {
+        let files = Store::files(machine, number, bytes).ok_or(Refusal::DayDamaged)?;
+        names.extend(files.into_iter().flat_map(|file| file.pieces));
+    }
+    Ok(names)
 }
 
 /// The number that was noted of a machine.
@@ -212,6 +224,7 @@ fn check_days_since(
 #[cfg(test)]
 mod tests {
     use super::*;
+    use crate::dayfile::{self, File};
     use crate::machines::Machines;
     use crate::sha256::sha256;
     use crate::store::MAX_LISTED;
@@ -429,7 +442,13 @@ mod tests {
         assert_eq!(all.decide(), Ok((0, 2)));
         assert_eq!(all.next(), Ok(Moved::ThrownAway(b)));
         all.stop();
-        all.store().name_day(1, 1, &[a]).expect("no day has it");
+        let file = File {
+            path: b"a".to_vec(),
+            length: 1,
+            pieces: vec![a],
+        };
+        let bytes = dayfile::write(1, 1, &[file]);
+        all.store().name_day(1, 1, &bytes).expect("no day has it");
         assert_eq!(all.decide(), Ok((1, 0)));
         assert_eq!(all.next(), Ok(Moved::PutBack(a)));
         all.stop();
@@ -571,5 +590,30 @@ mod tests {
         all.refused(Refusal::DayDamaged, All::look);
         all.store().let_go(0, 1).expect("the day is there");
         assert_eq!(all.look(), Ok(0));
+    }
+
+    /// The same where what lies under the name of a day is not its file.
+    #[test]
+    fn damaged_day_files() {
+        let mut all = All::new();
+        all.day(0, &[b"a"]);
+        all.day(1, &[]);
+        let file = all.store().days[&(0, 1)].clone();
+        let other = all.store().days[&(1, 1)].clone();
+        for damaged in [vec![], file[..file.len() - 1].to_vec(), other] {
+            all.store().days.insert((0, 1), damaged);
+            all.refused(Refusal::DayDamaged, All::look);
+            // Whatever the sweeper does.
+            all.refused(Refusal::DayDamaged, All::decide);
+        }
+        all.store().days.insert((0, 1), file.clone());
+        all.wait(0);
+        all.day(0, &[]);
+        all.day(1, &[]);
+        all.store().days.insert((0, 2), file.clone());
+        all.refused(Refusal::DayDamaged, All::decide);
+        // It is a day all the same, and can be let go.
+        all.store().let_go(0, 2).expect("the day is there");
+        all.refused(Refusal::NoDaySince, All::decide);
     }
 }
