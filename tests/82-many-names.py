@@ -13,14 +13,15 @@ MACHINES = 4
 # How many pieces a machine sees to before it breaks off its day. None has room for more than 4,096.
 FILES = 4_000
 
-# The first piece of a file of two. No name is left for the other one.
+# The first pieces of files of several. No name is left for the other ones.
 ZEROS = bytes(2_048)
+ONES = b"\1" * 65_536
 
-# How many short pieces there are; of the names in the lists one more is that of ZEROS, and one is in the sweeper's
-# list, too: that of the piece FIRST, whose name comes first of all.
-PIECES = MAX_LISTED - 2
+# How many short pieces there are; of the names in the lists two more are those of ZEROS and ONES, and one is in the
+# sweeper's list, too: that of the piece FIRST, whose name comes first of all.
+PIECES = MAX_LISTED - 3
 FIRST = min(range(PIECES), key=lambda number: sha256(number.to_bytes(3, "big")))
-assert sha256(FIRST.to_bytes(3, "big")) < sha256(ZEROS)
+assert sha256(FIRST.to_bytes(3, "big")) < min(sha256(ZEROS), sha256(ONES))
 
 FULL = "refused by 5: the lists have at most 262144 names"
 NOT_THERE = "refused by 4: the sweeper is not at that point"
@@ -84,6 +85,13 @@ def test():
     for number in range(PIECES):
         see(number % MACHINES, number.to_bytes(3, "big"))
 
+    # One name is left, and a file has two new ones: the first is listed, and the other refused. Nothing of the file is
+    # written, so the machine writes the piece of the first name when it sees to it.
+    refused("file 0 a repeat 01 70000", FULL)
+    refused("file 0 a repeat 01 70000", FULL)
+    refused("see 1 repeat 01 65536", FULL)
+    see(0, ONES)
+
     # A new piece is refused; one that is there is found, whoever wrote it.
     for machine in range(MACHINES):
         refused(f"see {machine} 61", FULL)
@@ -95,12 +103,13 @@ def test():
         refused(f"see {machine}", "refused by 1: a piece has at least one byte")
         for number in (0, 1, 2, 3, 100_000, FIRST, PIECES - 1):
             see(machine, number.to_bytes(3, "big"), found=True)
-    # The first piece is not found, and its name is in the list of machine 1 alone. That machine writes it, and is
-    # refused the file for its last piece: the file is not in the day, and the next one may have its path.
+    # The first piece is not found, and its name is in the list of machine 1 alone. That machine is refused a file for
+    # its last piece, and writes nothing of it. The file is not in the day, and the next one may have its path.
     for machine in (0, 2, 3):
         step("flip-place 77 repeat 00 2048", "flipped")
-        refused(f"file {machine} a repeat 00 2048", FULL)
         refused("file 1 a repeat 00 5000", FULL)
+        refused(f"file {machine} a repeat 00 2048", FULL)
+        see(1, ZEROS)
         add(machine, "a", ZEROS)
     add(1, "a", ZEROS)
     step("file 2 b", "added 0, written 0")
@@ -131,7 +140,7 @@ def test():
     refused("see 0 61", FULL)
 
     # The sweeper can put aside the piece whose name is in its list, and no other, and notes nothing then.
-    step("look", f"to put aside {PIECES + 1}")
+    step("look", f"to put aside {PIECES + 2}")
     put_aside()
     refused("aside", FULL)
     refused("aside", FULL)

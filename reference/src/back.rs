@@ -22,7 +22,8 @@ pub fn back(store: &Store, machine: u32, number: u32, path: &[u8]) -> Result<Vec
     }
 }
 
-/// A piece as it is in its place, or else aside.
+/// A piece as it is in its place, or else aside. Nobody moves it between the two looks
+/// here, so there is no third one.
 fn piece<'a>(store: &'a Store, name: &Digest) -> Option<&'a [u8]> {
     let copies = [store.read(name), store.read_aside(name)];
     let mut copies = copies.into_iter().flatten();

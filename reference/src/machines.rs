@@ -68,23 +68,6 @@ impl Seen {
     }
 }
 
-/// Why a file is not added, and what the machine had seen to for it by then: that is
-/// listed and written, and in no day.
-#[derive(Clone, Debug, PartialEq, Eq)]
-pub struct NotAdded {
-    pub refusal: Refusal,
-    pub seen: Vec<Seen>,
-}
-
-impl From<Refusal> for NotAdded {
-    fn from(refusal: Refusal) -> Self {
-        NotAdded {
-            refusal,
-            seen: Vec::new(),
-        }
-    }
-}
-
 impl Machines {
     pub fn new(store: Store) -> Self {
         Machines {
@@ -106,11 +89,11 @@ impl Machines {
     }
 
     /// Adds a file to the day that the machine makes. The answer is what was done for
-    /// each of its pieces.
-    pub fn add(&mut self, machine: u32, path: &[u8], file: &[u8]) -> Result<Vec<Seen>, NotAdded> {
+    /// each of its pieces. Where it is refused, names may have been listed for it.
+    pub fn add(&mut self, machine: u32, path: &[u8], file: &[u8]) -> Result<Vec<Seen>, Refusal> {
         let pieces = cutting::pieces(file).ok_or(Refusal::FileTooLong)?;
         if path.is_empty() || path.len() > MAX_PATH {
-            return Err(Refusal::NoPath.into());
+            return Err(Refusal::NoPath);
         }
         self.add_pieces(machine, path, &pieces)
     }
@@ -125,10 +108,8 @@ impl Machines {
         }
         let before = self.making.get(&machine).map_or(0, |day| day.files.len());
         let path = format!("{:04}", before + 1);
-        match self.add_pieces(machine, path.as_bytes(), &[piece]) {
-            Ok(seen) => Ok(seen[0]),
-            Err(not_added) => Err(not_added.refusal),
-        }
+        let seen = self.add_pieces(machine, path.as_bytes(), &[piece])?;
+        Ok(seen[0])
     }
 
     fn add_pieces(
@@ -136,22 +117,26 @@ impl Machines {
         machine: u32,
         path: &[u8],
         pieces: &[&[u8]],
-    ) -> Result<Vec<Seen>, NotAdded> {
+    ) -> Result<Vec<Seen>, Refusal> {
         self.check_on_list(machine)?;
         let day = self.making.get_mut(&machine).ok_or(Refusal::MakesNoDay)?;
         day.check_takes(path)?;
-        let mut seen = Vec::new();
-        for piece in pieces {
-            match see_to(&mut self.store, self.variant, machine, piece) {
-                Ok(done) => seen.push(done),
-                Err(refusal) => return Err(NotAdded { refusal, seen }),
+        let names: Vec<Digest> = pieces.iter().map(|piece| sha256(piece)).collect();
+        // All names are listed before the first piece is written.
+        for (&name, piece) in names.iter().zip(pieces) {
+            if !finds(&self.store, self.variant, name, piece) {
+                self.store.list(machine, name)?;
             }
+        }
+        let mut seen = Vec::new();
+        for (&name, piece) in names.iter().zip(pieces) {
+            seen.push(see_to(&mut self.store, self.variant, machine, name, piece)?);
         }
         let length: usize = pieces.iter().map(|piece| piece.len()).sum();
         day.files.push(File {
             path: path.to_vec(),
             length: length as u32,
-            pieces: seen.iter().map(|done| done.name()).collect(),
+            pieces: names,
         });
         Ok(seen)
     }
@@ -206,15 +191,20 @@ impl Machines {
 
 /// Only the very bytes of the piece, in its place, are found: what lies aside may be
 /// thrown away before the day has its name.
+fn finds(store: &Store, variant: Option<Variant>, name: Digest, piece: &[u8]) -> bool {
+    let finds_aside = variant == Some(Variant::AsideFound);
+    store.read(&name) == Some(piece) || finds_aside && store.read_aside(&name) == Some(piece)
+}
+
+/// The name is listed first, where it is not listed yet.
 fn see_to(
     store: &mut Store,
     variant: Option<Variant>,
     machine: u32,
+    name: Digest,
     piece: &[u8],
 ) -> Result<Seen, Refusal> {
-    let name = sha256(piece);
-    let finds_aside = variant == Some(Variant::AsideFound);
-    if store.read(&name) == Some(piece) || finds_aside && store.read_aside(&name) == Some(piece) {
+    if finds(store, variant, name, piece) {
         return Ok(Seen::Found(name));
     }
     store.list(machine, name)?;
@@ -250,17 +240,6 @@ mod tests {
         let before = machines.clone();
         assert_eq!(step(machines), Err(refusal));
         assert_eq!(*machines, before);
-    }
-
-    /// Adds a file; the answer is what is refused of it alone.
-    fn add(
-        machines: &mut Machines,
-        machine: u32,
-        path: &[u8],
-        file: &[u8],
-    ) -> Result<Vec<Seen>, Refusal> {
-        let added = machines.add(machine, path, file);
-        added.map_err(|not_added| not_added.refusal)
     }
 
     #[test]
@@ -299,7 +278,7 @@ mod tests {
                 all.see(machine, b"a")
             });
             refused(&mut machines, Refusal::NotThere, |all| {
-                add(all, machine, b"a", b"")
+                all.add(machine, b"a", b"")
             });
             refused(&mut machines, Refusal::NotThere, |all| all.raise(machine));
             refused(&mut machines, Refusal::NotThere, |all| all.name(machine));
@@ -340,7 +319,7 @@ mod tests {
         machines.begin(1).expect("it makes none");
         refused(&mut machines, Refusal::MakesNoDay, |all| all.see(0, b"a"));
         refused(&mut machines, Refusal::MakesNoDay, |all| {
-            add(all, 0, b"a", b"")
+            all.add(0, b"a", b"")
         });
         refused(&mut machines, Refusal::MakesNoDay, |all| all.raise(0));
         refused(&mut machines, Refusal::MakesNoDay, |all| all.name(0));
@@ -357,7 +336,7 @@ mod tests {
         refused(&mut machines, Refusal::AlreadyMakesDay, |all| all.begin(0));
         refused(&mut machines, Refusal::NumberRaised, |all| all.see(0, b"a"));
         refused(&mut machines, Refusal::NumberRaised, |all| {
-            add(all, 0, b"a", b"")
+            all.add(0, b"a", b"")
         });
         refused(&mut machines, Refusal::NumberRaised, |all| all.raise(0));
         machines.break_off(0).expect("it makes a day");
@@ -446,23 +425,23 @@ mod tests {
             // This comes before the machine is looked at.
             for machine in [0, 2] {
                 refused(&mut machines, Refusal::NoPath, |all| {
-                    add(all, machine, path, b"a")
+                    all.add(machine, path, b"a")
                 });
             }
         }
         machines.begin(0).expect("it makes none");
         refused(&mut machines, Refusal::NoPath, |all| {
-            add(all, 0, &longer, b"a")
+            all.add(0, &longer, b"a")
         });
-        assert_eq!(add(&mut machines, 0, b"0002", b""), Ok(vec![]));
+        assert_eq!(machines.add(0, b"0002", b""), Ok(vec![]));
         for path in [&b"\0"[..], b"0", b"0001", b"0001~", b"0002"] {
             refused(&mut machines, Refusal::PathNotAbove, |all| {
-                add(all, 0, path, b"a")
+                all.add(0, path, b"a")
             });
         }
         // The place of the next file is 2.
         refused(&mut machines, Refusal::PathNotAbove, |all| all.see(0, b"a"));
-        assert_eq!(add(&mut machines, 0, b"0002\0", b""), Ok(vec![]));
+        assert_eq!(machines.add(0, b"0002\0", b""), Ok(vec![]));
         assert_eq!(
             machines.see(0, b"a"),
             Ok(Seen::Written(sha256(b"a"))),
@@ -471,10 +450,10 @@ mod tests {
         machines.raise(0).expect("it has not raised");
         // The lower number wins.
         refused(&mut machines, Refusal::PathNotAbove, |all| {
-            add(all, 0, b"0003", b"a")
+            all.add(0, b"0003", b"a")
         });
         refused(&mut machines, Refusal::NumberRaised, |all| {
-            add(all, 0, b"0004", b"a")
+            all.add(0, b"0004", b"a")
         });
     }
 
@@ -494,7 +473,7 @@ mod tests {
             }
             for path in [b"0", b"a"] {
                 refused(&mut machines, Refusal::TooManyFiles, |all| {
-                    add(all, 0, path, b"")
+                    all.add(0, path, b"")
                 });
             }
         }
@@ -507,12 +486,12 @@ mod tests {
         // This comes before all else.
         for (machine, path) in [(0, &b""[..]), (2, b"a")] {
             refused(&mut machines, Refusal::FileTooLong, |all| {
-                add(all, machine, path, &longer)
+                all.add(machine, path, &longer)
             });
         }
         machines.begin(0).expect("it makes none");
         refused(&mut machines, Refusal::FileTooLong, |all| {
-            add(all, 0, b"a", &longer)
+            all.add(0, b"a", &longer)
         });
         let seen = machines.add(0, b"a", &longer[1..]).expect("it has room");
         assert_eq!(seen.len(), 8_192);
@@ -531,9 +510,10 @@ mod tests {
         refused(&mut machines, Refusal::PieceEmpty, |all| all.see(0, b""));
     }
 
-    /// What was seen to before a name cannot be listed stays; the file is in no day.
+    /// Names that were listed before one cannot be listed stay so; nothing is written,
+    /// and the file is in no day.
     #[test]
-    fn a_file_that_is_half_seen_to() {
+    fn a_file_that_is_half_listed() {
         let zeros = vec![0; 5_000];
         let (name, last) = (sha256(&zeros[..2_048]), sha256(&zeros[..904]));
         let mut machines = machines();
@@ -547,17 +527,19 @@ mod tests {
             name[..4].copy_from_slice(&u32::to_be_bytes(at));
             machines.store.listed.insert((1, name));
         }
-        let before = machines.making.clone();
-        let not_added = NotAdded {
-            refusal: Refusal::ListsFull,
-            seen: vec![Seen::Written(name), Seen::Found(name)],
-        };
-        assert_eq!(machines.add(0, b"b", &zeros), Err(not_added));
-        assert_eq!(machines.making, before);
-        assert!(machines.store.in_place(&name) && !machines.store.in_place(&last));
+        let before = machines.clone();
+        let refused = Err(Refusal::ListsFull);
+        assert_eq!(machines.add(0, b"b", &zeros), refused);
+        assert_eq!(machines.making, before.making);
+        assert_eq!(machines.store.place, before.store.place);
         assert!(machines.store.listed.contains(&(0, name)));
+        assert!(!machines.store.listed.contains(&(0, last)));
+        // It is refused again, and then nothing changes any more.
+        let before = machines.clone();
+        assert_eq!(machines.add(0, b"b", &zeros), refused);
+        assert_eq!(machines, before);
         // Its path is still free, and the day goes on.
-        let seen = vec![Seen::Found(name)];
+        let seen = vec![Seen::Written(name)];
         assert_eq!(machines.add(0, b"b", &zeros[..2_048]), Ok(seen));
     }
 

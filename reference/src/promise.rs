@@ -19,8 +19,6 @@ pub enum Event {
     Begun(u32),
     /// A machine has added a file to the day that it makes.
     Added(u32, Given),
-    /// A machine has not added a file, and had seen to these pieces of it by then.
-    Tried(Vec<Digest>),
     /// A machine has named a day of this number.
     Named(u32, u32),
     /// A machine breaks off its day.
@@ -251,7 +249,6 @@ impl Checker {
                 });
                 self.are_seen_to(&file.pieces);
             }
-            Event::Tried(pieces) => self.are_seen_to(pieces),
             Event::Named(machine, number) => {
                 let files = self.making.remove(machine).unwrap_or_default();
                 for file in &files {
@@ -695,7 +692,6 @@ mod tests {
         // So may all after a stop.
         for event in [
             Event::Added(1, given(B)),
-            Event::Tried(vec![sha256(A), sha256(B)]),
             Event::Named(1, 1),
             Event::Stopped,
         ] {

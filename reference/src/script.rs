@@ -385,24 +385,9 @@ fn answer<'a>(
             Err(fault) => (Event::Other, Err(fault)),
             Ok(step) => match step.play(world) {
                 Ok((event, answer)) => (event, Ok(answer)),
-                Err(Refused { refusal, event }) => (event, Err(refusal.into())),
+                Err(refusal) => (Event::Other, Err(refusal.into())),
             },
         }),
-    }
-}
-
-/// Why a step is refused, and what it has done all the same.
-struct Refused {
-    refusal: Refusal,
-    event: Event,
-}
-
-impl From<Refusal> for Refused {
-    fn from(refusal: Refusal) -> Self {
-        Refused {
-            refusal,
-            event: Event::Other,
-        }
     }
 }
 
@@ -507,7 +492,7 @@ impl<'a> Step<'a> {
         Ok(self)
     }
 
-    fn play(self, world: &mut World) -> Result<(Event, Answer<'_>), Refused> {
+    fn play(self, world: &mut World) -> Result<(Event, Answer<'_>), Refusal> {
         let World { machines, sweeper } = world;
         let store = &mut machines.store;
         Ok(match self {
@@ -529,18 +514,13 @@ impl<'a> Step<'a> {
             }
             Step::File(machine, path, file) => {
                 let file = file.at_most(MAX_FILE).ok_or(Refusal::FileTooLong)?;
-                let names = |seen: &[Seen]| seen.iter().map(|seen| seen.name()).collect();
-                let seen = machines.add(machine, path, &file);
-                let seen = seen.map_err(|not_added| Refused {
-                    refusal: not_added.refusal,
-                    event: Event::Tried(names(&not_added.seen)),
-                })?;
+                let seen = machines.add(machine, path, &file)?;
                 let written = seen.iter().filter(|seen| matches!(seen, Seen::Written(_)));
                 let answer = Answer::Added(seen.len(), written.count());
                 let given = Given {
                     path: Some(path.to_vec()),
                     digest: sha256(&file),
-                    pieces: names(&seen),
+                    pieces: seen.iter().map(|seen| seen.name()).collect(),
                 };
                 (Event::Added(machine, given), answer)
             }

@@ -26,7 +26,7 @@ use Rattle.dayfile.specs.Reading.{Fails}
 use Rattle.dayfile.specs.Stored.{HasFiles, IsDayOf}
 use Rattle.dayfile.proofs.OneForm.{one_form}
 use Rattle.dayfile.proofs.Rising.{same_file}
-use Rattle.days.specs.Backs.{Backs, HasNoPath, Joins, JoinsAll, JoinsPiece, ReadsPiece, ReadsRight}
+use Rattle.days.specs.Backs.{Backs, HasNoPath, Joins, JoinsAll, JoinsPiece, ReadsFrom, ReadsPiece, ReadsRight, looks}
 use Rattle.days.specs.Files.{BacksAreListed, Clash, IsTold, FilesComeBack, GivenBack, LiesRight}
 use Rattle.days.specs.Promise.{file_entry}
 use Rattle.days.proofs.Cuts.{whole}
@@ -34,14 +34,15 @@ use Rattle.days.proofs.Parts.{Differ, Joined, has_name, joins, one_more, prefix_
 use Rattle.days.proofs.Seen.{each_is_done, each_is_stopped}
 
 -- a piece that is read was told
-is_told : {S : Type 0} (does : Doing S) (n : Digest) (s t : S) (p : Vec ℕ Global) → ReadsPiece does n s (Ok p) t → IsTold does (vec_items p)
-is_told does n s t p (inl (asked, e)) = (s, t, Place, subst (λ x. does s (Read Place x) (Bytes (Some (vec_items p))) t) (sym e) asked)
-is_told does n s t p (inr (m, none, (asked, e))) = (m, t, Aside, subst (λ x. does m (Read Aside x) (Bytes (Some (vec_items p))) t) (sym e) asked)
+is_told : {S : Type 0} (does : Doing S) (spots : List Spot) (n : Digest) (s t : S) (p : Vec ℕ Global) → ReadsFrom does spots n s (Ok p) t → IsTold does (vec_items p)
+is_told does [] n s t p x = absurd x
+is_told does (spot ∷ spots) n s t p (inl (asked, e)) = (s, t, spot, subst (λ x. does s (Read spot x) (Bytes (Some (vec_items p))) t) (sym e) asked)
+is_told does (spot ∷ spots) n s t p (inr (m, none, later)) = is_told does spots n m t p later
 
 -- whatever a store answers, the pieces of a file that is had back have the names that are listed
 pub backs_are_listed : {S : Type 0} (does : Doing S) → BacksAreListed does
 backs_are_listed {S} does d path s t v (b, es, e, m, asked, is, has, same, (all, size)) =
-    let j = joins does (λ u. Unit {0}) (IsTold does) (λ n u w p k r. (tt, is_told does n u w p r)) e.length e.pieces (length e.pieces) m t (vec_items v) (omega arith) tt (each_is_done (record { bytes = [] }) (JoinsPiece does e.length) e.pieces m t [] (vec_items v) all) in
+    let j = joins does (λ u. Unit {0}) (IsTold does) (λ n u w p k r. (tt, is_told does looks n u w p r)) e.length e.pieces (length e.pieces) m t (vec_items v) (omega arith) tt (each_is_done (record { bytes = [] }) (JoinsPiece does e.length) e.pieces m t [] (vec_items v) all) in
     record {
       file = b;
       after = m;
@@ -75,6 +76,10 @@ has_names (x ∷ es) e n (suc k, l, at) h = list_any-append (same_name n) x.piec
 abbrev Lies : State → Digest → List ℕ → Type 0
 Lies z n b = (z.place n ≡ Some b) ⊎ (z.aside n ≡ Some b)
 
+lies_in : (spot : Spot) (z : State) (n : Digest) (b : List ℕ) → lies spot z n ≡ Some b → Lies z n b
+lies_in Place z n b e = inl e
+lies_in Aside z n b e = inr e
+
 -- a read is refused only for want of memory
 not_read : (s t : State) (spot : Spot) (n : Digest) (r : Refusal) → Does s (Read spot n) (Refused r) t → r ≡ NoMemory
 not_read s t spot n r (inl e) =
@@ -106,22 +111,26 @@ module _ {S : Type 0} (does : Doing S) (holds : S → State) (exact : IsExact ho
       (k.0, λ b e d. wrong b (sym k.1 ∙ e) d)
 
   -- a piece that is read lies there
+  piece_read_in : (spots : List Spot) (n : Digest) (s t : S) (p : Vec ℕ Global) → ReadsFrom does spots n s (Ok p) t → (holds t ≡ holds s) × Lies (holds s) n (vec_items p)
+  piece_read_in [] n s t p x = absurd x
+  piece_read_in (spot ∷ spots) n s t p (inl (asked, e)) =
+      let k = read _ _ spot n (Some (vec_items p)) (exact s t _ _ asked) in
+      (k.0, lies_in spot (holds s) n (vec_items p) k.1)
+  piece_read_in (spot ∷ spots) n s t p (inr (m, none, later)) =
+      let k = piece_read_in spots n m t p later in
+      let before = not_right spot n s m none in
+      (k.0 ∙ before.0, subst (λ (z : State). Lies z n (vec_items p)) before.0 k.1)
+
   piece_read : (n : Digest) (s t : S) (p : Vec ℕ Global) → ReadsPiece does n s (Ok p) t → (holds t ≡ holds s) × Lies (holds s) n (vec_items p)
-  piece_read n s t p (inl (asked, e)) =
-      let k = read _ _ Place n (Some (vec_items p)) (exact s t _ _ asked) in
-      (k.0, inl k.1)
-  piece_read n s t p (inr (m, none, (asked, e))) =
-      let k = read _ _ Aside n (Some (vec_items p)) (exact m t _ _ asked) in
-      let before = not_right Place n s m none in
-      (k.0 ∙ before.0, inr (ap (λ (z : State). z.aside n) (sym before.0) ∙ k.1))
+  piece_read n s t p reads = piece_read_in looks n s t p reads
 
   -- one that is there is read, if there is memory
   piece_unread : (n : Digest) (s t : S) (r : Refusal) → LiesRight (holds s) n → ReadsPiece does n s (Err r) t → r ≡ NoMemory
   piece_unread n s t r h (inl asked) = not_read _ _ Place n r (exact s t _ _ asked)
   piece_unread n s t r h (inr (m, none, inl asked)) = not_read _ _ Aside n r (exact m t _ _ asked)
-  piece_unread n s t r (b, inl l, d) (inr (m, none, inr (neither, e))) = absurd ((not_right Place n s m none).1 b l d)
-  piece_unread n s t r (b, inr l, d) (inr (m, none, inr (neither, e))) =
-      absurd ((not_right Aside n m t neither).1 b (ap (λ (z : State). z.aside n) (not_right Place n s m none).0 ∙ l) d)
+  piece_unread n s t r (b, inl l, d) (inr (m, none, inr x)) = absurd ((not_right Place n s m none).1 b l d)
+  piece_unread n s t r (b, inr l, d) (inr (m, none, inr (u, neither, x))) =
+      absurd ((not_right Aside n m u neither).1 b (ap (λ (z : State). z.aside n) (not_right Place n s m none).0 ∙ l) d)
 
   -- having the pieces of this file read one after the other, from a store that holds z
   module _ (file : List ℕ) (z : State) where
@@ -232,10 +241,10 @@ module _ {S : Type 0} (does : Doing S) (holds : S → State) (exact : IsExact ho
       subst (λ z. GivenBack z file (Err r)) k.0 (joins_back path file m t (Err r) (still_there path file es s m k.0 c there) (subst (λ x. Joins does x m (Err r) t) (file_is d path file es fs e h.0 k.1 c has same) joined))
 
   -- having a file back changes nothing
-  unread_same : (n : Digest) (s t : S) (r : Refusal) → ReadsPiece does n s (Err r) t → holds t ≡ holds s
-  unread_same n s t r (inl asked) = refused _ _ (Read Place n) r (exact s t _ _ asked)
-  unread_same n s t r (inr (m, none, inl asked)) = refused _ _ (Read Aside n) r (exact m t _ _ asked) ∙ (not_right Place n s m none).0
-  unread_same n s t r (inr (m, none, inr (neither, e))) = (not_right Aside n m t neither).0 ∙ (not_right Place n s m none).0
+  unread_same : (spots : List Spot) (n : Digest) (s t : S) (r : Refusal) → ReadsFrom does spots n s (Err r) t → holds t ≡ holds s
+  unread_same [] n s t r (same, e) = ap holds same
+  unread_same (spot ∷ spots) n s t r (inl asked) = refused _ _ (Read spot n) r (exact s t _ _ asked)
+  unread_same (spot ∷ spots) n s t r (inr (m, none, later)) = unread_same spots n m t r later ∙ (not_right spot n s m none).0
 
   reads_same : (most : ℕ) (ns : List Digest) (k : ℕ) (s t : S) (v : List ℕ) → k ≤ length ns → Times (at (record { bytes = [] }) (JoinsPiece does most) ns) k s [] t v → holds t ≡ holds s
   reads_same most ns k s t v l h = (joins does (λ u. holds u ≡ holds s) (λ p. Unit {0}) (λ n u w p same r. ((piece_read n u w p r).0 ∙ same, tt)) most ns k s t v l refl h).well
@@ -249,7 +258,7 @@ module _ {S : Type 0} (does : Doing S) (holds : S → State) (exact : IsExact ho
       stopped k m w last ∙ reads_same e.length e.pieces k s m w (omega (arith, l)) before
     where
       stopped : (k : ℕ) (m : S) (w : List ℕ) → JoinsPiece does e.length (slice_index_or e.pieces k (record { bytes = [] })) m w (Err r) t v → holds t ≡ holds m
-      stopped k m w (inl unread) = unread_same _ m t r unread
+      stopped k m w (inl unread) = unread_same looks _ m t r unread
       stopped k m w (inr (p, reads, x)) = (piece_read _ m t p reads).0
 
   day_same : (d : DayName) (s t : S) (o : Option (List ℕ)) → does s (ReadDay d) (Bytes o) t → holds t ≡ holds s

@@ -1,6 +1,6 @@
 -- What the steps of a machine have done.
 -- Assumes nothing.
-use Rattle.std.proofs.Common.{◌≡◌, inl, inr, ◌⊎◌, ℕ, zero, suc, ◌+◌, ◌∷◌, [], List, true, false, Bool, length, map, take_all, nat_le, cond, slice_index_or, Some, None, Ok, Err, Option, Result, ap, sym, subst, refl, ◌∙◌, arith}
+use Rattle.std.proofs.Common.{◌≡◌, inl, inr, ◌⊎◌, ℕ, zero, suc, ◌+◌, ◌∷◌, [], List, true, length, map, take_all, slice_index_or, Some, None, Ok, Err, Option, Result, ap, sym, subst, refl, ◌∙◌, arith}
 use Rattle.std.proofs.lemmas.Cmp.{nat_cmp_total}
 use Rattle.std.proofs.lemmas.Grind.{common_steps}
 use Rattle.cutting.specs.Refusals.{number_of}
@@ -12,22 +12,21 @@ use Rattle.digest.specs.Digests.{digest_of}
 use Rattle.dayfile.specs.Form.{day_file}
 use Rattle.store.specs.Asking.{Doing, IsExact}
 use Rattle.store.specs.declared.day.DayName.{DayName}
-use Rattle.store.specs.declared.listing.Listing.{Listing}
-use Rattle.store.specs.declared.piece.Spot.TheVariants.{Place}
-use Rattle.store.specs.Effects.{Does, with_day, with_highest, with_listing}
+use Rattle.store.specs.Effects.{with_day, with_highest}
 use Rattle.store.specs.Loops.{Go, Times, at}
-use Rattle.store.specs.Requests.{Answer, Read, Enlist, Write, Highest, Raise, Done, Bytes, Refused}
-use Rattle.store.specs.State.{State, last_number, most_names}
+use Rattle.store.specs.Requests.{Highest, Raise}
+use Rattle.store.specs.State.{State, last_number}
 use Rattle.days.specs.declared.done.Added.{Added as Count}
 use Rattle.days.specs.declared.done.Done.{Done as StepDone}
 use Rattle.days.specs.declared.done.Done.TheVariants.{Begun, Found, Written, Added, Raised, Named, BrokenOff}
 use Rattle.days.specs.Machines.{Work, with_file}
-use Rattle.days.specs.Promise.{AllInPlace, OnlyWrites, Promised, Steps, file_entry}
-use Rattle.days.specs.Steps.{Adds, DayAdds, DayRaises, DaySees, Ends, ForDay, GoesOn, Names, NoDay, NotNamed, NotRaised, Raises, Sees, SeesPiece, SeesTo, enlist, entry, name, place_path}
-use Rattle.store.proofs.Exact.{enlisted, highest, named, raised, read}
+use Rattle.days.specs.Promise.{AllInPlace, OnlyLists, Promised, Steps, file_entry}
+use Rattle.days.specs.Steps.{Adds, DayAdds, DayRaises, DaySees, Ends, ForDay, GoesOn, ListsAbsent, Names, NoDay, NotNamed, NotRaised, Raises, Sees, SeesFile, SeesPiece, entry, name, place_path}
+use Rattle.store.proofs.Exact.{highest, named, raised}
 use Rattle.days.proofs.Cuts.{whole_entry}
+use Rattle.days.proofs.Listed.{all_listed, not_looked_for, not_seen_to, still_ready}
 use Rattle.days.proofs.Moves.{compares_equal, not_on, on, unmoved}
-use Rattle.days.proofs.Seen.{all_seen, each_is_done, each_is_stopped, listed_only, only_same, only_then, seen_to}
+use Rattle.days.proofs.Seen.{all_seen, each_is_done, each_is_stopped, only_same, only_then, seen_to}
 
 set_highest : (i k : ℕ) (s : State) → (with_highest i k s).highest i ≡ k
 set_highest i k s = grind (arith, common_steps)
@@ -41,32 +40,6 @@ numbered r k e f =
     let g : None ≡ Some k = sym (ap number_of f) ∙ e in
     cc
 
--- nothing is read, and a piece is not written, only for want of memory; a name is not listed also where the lists are full
-wanting : (p : Answer × State) (w : Bool) (s t : State) (r : Refusal) → (p.0 ≡ Refused r → r ≡ NoMemory) → (p ≡ (Refused r, t)) ⊎ ((w ≡ true) × (Refused r ≡ Refused NoMemory) × (t ≡ s)) → r ≡ NoMemory
-wanting p w s t r f (inl e) = f (ap (λ x. x.0) e)
-wanting p w s t r f (inr (is, e, same)) = cc
-
-not_read : (s t : State) (n : Digest) (r : Refusal) → Does s (Read Place n) (Refused r) t → r ≡ NoMemory
-not_read s t n r h = wanting _ _ s t r (λ (e : Bytes (s.place n) ≡ Refused r). absurd cc) h
-
-not_written : (s t : State) (n : Digest) (b : List ℕ) (r : Refusal) → Does s (Write n b) (Refused r) t → r ≡ NoMemory
-not_written s t n b r h = wanting _ _ s t r (λ (e : Done ≡ Refused r). absurd cc) h
-
-not_enlisted : (there full : Bool) (s t u : State) (r : Refusal) → ◌≡◌ {A = Answer × State} (cond there (Done, s) (cond full (Refused TooManyNames, s) (Done, t))) (Refused r, u) → r ≡ TooManyNames
-not_enlisted true full s t u r e =
-    let f : Done ≡ Refused r = ap (λ x. x.0) e in
-    absurd cc
-not_enlisted false true s t u r e =
-    let f : Refused TooManyNames ≡ Refused r = ap (λ x. x.0) e in
-    cc
-not_enlisted false false s t u r e =
-    let f : Done ≡ Refused r = ap (λ x. x.0) e in
-    absurd cc
-
-not_listed : (s t : State) (l : Listing) (r : Refusal) → Does s (Enlist l) (Refused r) t → (r ≡ NoMemory) ⊎ (r ≡ TooManyNames)
-not_listed s t l r (inl e) = inr (not_enlisted (s.listed l) (nat_le most_names s.names) s (with_listing l s) t r e)
-not_listed s t l r (inr (is, e, same)) = inl cc
-
 -- before the first go
 no_times : {S U : Type 0} (go : ℕ → Go S U) (k : ℕ) (s t : S) (u v : U) → k ≡ 0 → Times go k s u t v → t ≡ s
 unfolding Times
@@ -75,9 +48,9 @@ no_times go (suc k) s t u v e h = absurd (omega arith)
 
 module _ {S : Type 0} (does : Doing S) (holds : S → State) (exact : IsExact holds does) where
   one_seen : (i : ℕ) (path p : List ℕ) (w v : Work) (s t : S) (c : Count) → DayAdds does i path (p ∷ []) w s (Ok c) v t → ((holds t).place (digest_of p) ≡ Some p) × (v ≡ with_file (entry path (p ∷ [])) w)
-  unfolding Times
-  one_seen i path p w v s t c (may, all, count, g) =
-      let (m, x, before, (b, sees, n)) = each_is_done [] (SeesPiece does i) (p ∷ []) s t 0 c.written all in
+  unfolding Times SeesFile
+  one_seen i path p w v s t c (may, (u, listed, all), count, g) =
+      let (m, x, before, (b, sees, n)) = each_is_done [] (SeesPiece does i) (p ∷ []) u t 0 c.written all in
       ((seen_to does holds exact i p m t b sees).there, g)
 
   seen : (i : ℕ) (p : List ℕ) (old new : Option Work) (s t : S) (d : StepDone) → Sees does i p old s (Ok d) new t →
@@ -104,16 +77,17 @@ module _ {S : Type 0} (does : Doing S) (holds : S → State) (exact : IsExact ho
 
   added : (i : ℕ) (path file : List ℕ) (old new : Option Work) (s t : S) (a : Count) → Adds does i path file old s (Ok (Added a)) new t →
       (w : Work) × (old ≡ Some w) × (new ≡ Some (with_file (file_entry path file) w)) × AllInPlace (holds t) (map digest_of (pieces file)) × (a.pieces ≡ length (pieces file))
+  unfolding SeesFile
   added i path file old new s t a (inl (r, is, why, same, h)) =
       let f : Ok (Added a) ≡ Err r = is in
       absurd cc
   added i path file old new s t a (inr (short, is_path, inl (r, is, same, h))) =
       let f : Ok (Added a) ≡ Err r = is in
       absurd cc
-  added i path file old new s t a (inr (short, is_path, inr (w, e, m, k, (v, f, (may, all, count, g))))) =
+  added i path file old new s t a (inr (short, is_path, inr (w, e, m, k, (v, f, (may, (u, listed, all), count, g))))) =
       let ps = pieces file in
-      let x = all_seen does holds exact i ps (length ps) m t 0 a.written (omega arith) (each_is_done [] (SeesPiece does i) ps m t 0 a.written all) in
-      (w, e, f ∙ ap Some (g ∙ ap (λ y. with_file y w) (whole_entry path file)), subst (λ qs. AllInPlace (holds t) (map digest_of qs)) (take_all (length ps) ps (omega arith)) x.all, count)
+      let x = all_seen does holds exact i ps (length ps) u t 0 a.written (omega arith) (each_is_done [] (SeesPiece does i) ps u t 0 a.written all) in
+      (w, e, f ∙ ap Some (g ∙ ap (λ y. with_file y w) (whole_entry path file)), subst (λ qs. AllInPlace (holds t) (map digest_of qs)) (take_all (length ps) ps (omega arith)) x, count)
 
   raises : (i k : ℕ) (old new : Option Work) (s t : S) → Raises does i old s (Ok (Raised k)) new t → (k ≡ (holds s).highest i + 1) × ((holds t).highest i ≡ k)
   raises i k old new s t (inl (r, is, same, h)) =
@@ -139,26 +113,10 @@ module _ {S : Type 0} (does : Doing S) (holds : S → State) (exact : IsExact ho
   no_day i old s t r (inl n) = not_on does holds exact s t i r n
   no_day i old s t r (inr n) = (on does holds exact s t i true n.2).0
 
-  -- a piece that is not seen to: nothing is changed but where it is not written, for want of memory, after its name was listed
-  record NotSeenTo (r : Refusal) (s t : State) : Type 0 where
-    only : OnlyWrites s t
-    why : (r ≡ NoMemory) ⊎ ((t ≡ s) × (r ≡ TooManyNames))
-
-  not_seen_to : (i : ℕ) (p : List ℕ) (s t : S) (r : Refusal) → SeesTo does i p s (Err r) t → NotSeenTo r (holds s) (holds t)
-  not_seen_to i p s t r (inl (m, asked, last)) = record { only = only_same (unmoved does holds exact s t (Read Place (digest_of p)) r (m, asked, last)); why = inl (not_read _ _ (digest_of p) r (exact s m _ _ asked)) }
-  not_seen_to i p s t r (inr (b, other, inl (m, asked, (m', listed, last)))) =
-      let same : holds t ≡ holds s = unmoved does holds exact m t (enlist i p) r (m', listed, last) ∙ (read _ _ Place (digest_of p) b (exact s m _ _ asked)).0 in
-      record { only = only_same same; why = elim (not_listed _ _ _ r (exact m m' _ _ listed)) [ inl e ↦ inl e | inr e ↦ inr (same, e) ] }
-  not_seen_to i p s t r (inr (b, other, inr (m, asked, (m', listed, (m'', written, last))))) =
-      record {
-        only = only_then (only_same (read _ _ Place (digest_of p) b (exact s m _ _ asked)).0) (only_then (listed_only _ _ _ (enlisted _ _ _ (exact m m' _ _ listed))).0 (only_same (unmoved does holds exact m' t _ r (m'', written, last))));
-        why = inl (not_written _ _ (digest_of p) p r (exact m' m'' _ _ written));
-      }
-
-  -- a file is not added: nothing but pieces is written, and nothing at all where the lists are not full, or where it is one piece
+  -- a file is not added: no piece is written, and nothing is changed where the lists are not full, or where it is one piece
   record NotAddedTo (ps : List (List ℕ)) (r : Refusal) (w v : Work) (s t : State) : Type 0 where
     day : v ≡ w
-    only : OnlyWrites s t
+    only : OnlyLists s t
     same : (r ≡ TooManyNames → ⊥) → t ≡ s
     one : length ps ≡ 1 → t ≡ s
 
@@ -166,24 +124,30 @@ module _ {S : Type 0} (does : Doing S) (holds : S → State) (exact : IsExact ho
   unchanged ps r w v s t g same = record { day = g; only = only_same (ap holds same); same = λ f. ap holds same; one = λ f. ap holds same }
 
   not_added : (i k : ℕ) (path : List ℕ) (ps : List (List ℕ)) (w v : Work) (s t : S) (r : Refusal) → number_of r ≡ Some k → DayAdds does i path ps w s (Err r) v t → NotAddedTo ps r w v (holds s) (holds t)
+  unfolding SeesFile
   not_added i k path ps w v s t r e (g, inl (is, same)) = unchanged ps r w v s t g same
   not_added i k path ps w v s t r e (g, inr (inl (is, same))) = unchanged ps r w v s t g same
   not_added i k path ps w v s t r e (g, inr (inr (inl (n, has, are, is, same)))) = unchanged ps r w v s t g same
   not_added i k path ps w v s t r e (g, inr (inr (inr (may, c, inr (all, is))))) = absurd (numbered r k e is)
-  not_added i k path ps w v s t r e (g, inr (inr (inr (may, c, inl stopped)))) =
-      let (j, lt, m, y, times, last) = each_is_stopped [] (SeesPiece does i) ps s t 0 c r stopped in
-      let before = all_seen does holds exact i ps j s m 0 y (omega arith) times in
-      let no = not_seen_to i (slice_index_or ps j []) m t r last in
-      elim no.why [
+  not_added i k path ps w v s t r e (g, inr (inr (inr (may, c, inl (inl unlisted))))) =
+      let (j, lt, m, y, times, last) = each_is_stopped [] (ListsAbsent does i) ps s t tt tt r unlisted in
+      let before = all_listed does holds exact i ps j s m tt y (omega arith) times in
+      let no = not_looked_for does holds exact i (slice_index_or ps j []) m t y tt r last in
+      elim no.1 [
         | inl is ↦ absurd (numbered r k e is)
-        | inr (same, full) ↦
+        | inr full ↦
             record {
               day = g;
-              only = only_then before.only no.only;
+              only = only_then before.only (only_same no.0);
               same = λ f. absurd (f full);
-              one = λ f. same ∙ ap holds (no_times (at [] (SeesPiece does i) ps) j s m 0 y (omega arith) times);
+              one = λ f. no.0 ∙ ap holds (no_times (at [] (ListsAbsent does i) ps) j s m tt y (omega arith) times);
             }
       ]
+  not_added i k path ps w v s t r e (g, inr (inr (inr (may, c, inl (inr (m, listed, unseen)))))) =
+      let n = length ps in
+      let (j, lt, u, y, times, last) = each_is_stopped [] (SeesPiece does i) ps m t 0 c r unseen in
+      let ready = (all_listed does holds exact i ps n s m tt tt (omega arith) (each_is_done [] (ListsAbsent does i) ps s m tt tt listed)).ready in
+      absurd (numbered r k e (not_seen_to does holds exact i (slice_index_or ps j []) u t r (still_ready does holds exact i ps j m u 0 y (omega arith) ready times j lt) last).1)
 
   day_not_seen : (i k : ℕ) (p : List ℕ) (w v : Work) (s t : S) (r : Refusal) → number_of r ≡ Some k → DaySees does i p w s (Err r) v t → (holds t ≡ holds s) × (v ≡ w)
   day_not_seen i k p w v s t r e x = let no = not_added i k (place_path (length w.files + 1)) (p ∷ []) w v s t r e x in (no.one refl, no.day)
@@ -225,7 +189,7 @@ module _ {S : Type 0} (does : Doing S) (holds : S → State) (exact : IsExact ho
       absurd cc) x
 
   add_refused : (i k : ℕ) (path file : List ℕ) (old new : Option Work) (s t : S) (r : Refusal) → number_of r ≡ Some k → Adds does i path file old s (Err r) new t →
-      (new ≡ old) × OnlyWrites (holds s) (holds t) × ((r ≡ TooManyNames → ⊥) → holds t ≡ holds s)
+      (new ≡ old) × OnlyLists (holds s) (holds t) × ((r ≡ TooManyNames → ⊥) → holds t ≡ holds s)
   add_refused i k path file old new s t r e (inl (q, is, why, same, f)) = (same, only_same (ap holds f), λ full. ap holds f)
   add_refused i k path file old new s t r e (inr (short, is_path, inl (q, is, same, h))) = let f = no_day i old s t q h in (same, only_same f, λ full. f)
   add_refused i k path file old new s t r e (inr (short, is_path, inr (w, is, m, l, (v, f, h)))) =

@@ -3,6 +3,7 @@ pub mod Cuts
 pub mod HadBack
 pub mod Joining
 pub mod Kept
+pub mod Listed
 pub mod Made
 pub mod Moves
 pub mod Parts

@@ -10,12 +10,17 @@ use Rattle.digest.specs.declared.value.Digest.{Digest}
 use Rattle.digest.specs.Digests.{digest_of}
 use Rattle.store.specs.Asking.{Doing}
 use Rattle.store.specs.Loops.{Times, at}
-use Rattle.days.specs.Backs.{JoinsPiece, ReadsPiece}
+use Rattle.store.specs.declared.piece.Spot.{Spot}
+use Rattle.days.specs.Backs.{JoinsPiece, ReadsFrom, ReadsPiece, looks}
 
 -- what is read as a piece is of its name
+has_name_in : {S : Type 0} (does : Doing S) (spots : List Spot) (n : Digest) (s t : S) (p : Vec ℕ Global) → ReadsFrom does spots n s (Ok p) t → digest_of (vec_items p) ≡ n
+has_name_in does [] n s t p x = absurd x
+has_name_in does (spot ∷ spots) n s t p (inl (x, e)) = e
+has_name_in does (spot ∷ spots) n s t p (inr (m, none, later)) = has_name_in does spots n m t p later
+
 pub has_name : {S : Type 0} (does : Doing S) (n : Digest) (s t : S) (p : Vec ℕ Global) → ReadsPiece does n s (Ok p) t → digest_of (vec_items p) ≡ n
-has_name does n s t p (inl (x, e)) = e
-has_name does n s t p (inr (m, x, (y, e))) = e
+has_name does n s t p reads = has_name_in does looks n s t p reads
 
 all_push : {X : Type 0} (P : X → Type 0) (xs : List X) (y : X) → AllByRecursion P xs → P y → AllByRecursion P (xs ++ y ∷ [])
 all_push P [] y h p = (p, tt)

@@ -7,8 +7,6 @@ use Rattle.cutting.specs.Results.{contents}
 use Rattle.digest.specs.declared.value.Digest.{Digest}
 use Rattle.digest.specs.Digests.{digest_of, digest_of_each}
 use Rattle.cutting.specs.declared.refusal.Refusal.{Refusal}
-use Rattle.store.specs.Asking.{Doing}
-use Rattle.days.specs.Steps.{SeesAll, SeesPiece, SeesTo}
 use Rattle.store.specs.Loops.{Each, Go, Loop, Times, at}
 pub use Rattle.store.proofs.Loops.{loop_done, loop_stops, times_more, times_none}
 
@@ -32,7 +30,6 @@ module _ {S U : Type 0} (go : List ℕ → Go S U) (ps : List (Bor (List ℕ))) 
   pub each_stops : (k : ℕ) (s m t : S) (u w v : U) (r : Refusal) → k < length ps → Times (at [] go (contents ps)) k s u m w → at [] go (contents ps) k m w (Err r) t v → Each [] go (contents ps) s u (Err r) t v
   each_stops k s m t u w v r l h g = subst (λ n. Loop (at [] go (contents ps)) n s u (Err r) t v) (sym (length-map ps (λ p. p.now))) (loop_stops _ k (length ps) s m t u w v r l h g)
 
--- a piece is not seen to, and no more after it
-pub unseen : {S : Type 0} (does : Doing S) (i : ℕ) (ps : List (Bor (List ℕ))) (k : ℕ) (d : Bor (List ℕ)) (s m t : S) (u w v : ℕ) (r : Refusal) → k < length ps → Times (at [] (SeesPiece does i) (contents ps)) k s u m w
-    → SeesTo does i (slice_index_or ps k d).now m (Err r) t → SeesAll does i (contents ps) s u (Err r) t v
-unseen does i ps k d s m t u w v r l h g = each_stops (SeesPiece does i) ps k s m t u w v r l h (subst (λ p. SeesTo does i p m (Err r) t) (sym (piece_at ps k d l)) g)
+  -- as seen by a piece itself
+  pub stops_at : (k : ℕ) (d : Bor (List ℕ)) (s m t : S) (u w v : U) (r : Refusal) → k < length ps → Times (at [] go (contents ps)) k s u m w → go (slice_index_or ps k d).now m w (Err r) t v → Each [] go (contents ps) s u (Err r) t v
+  stops_at k d s m t u w v r l h g = each_stops k s m t u w v r l h (subst (λ p. go p m w (Err r) t v) (sym (piece_at ps k d l)) g)

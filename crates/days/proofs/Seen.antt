@@ -16,7 +16,7 @@ use Rattle.store.specs.Loops.{Each, Go, Loop, Times, at}
 use Rattle.store.specs.State.{State, is_in, same_name}
 use Rattle.store.proofs.Equality.{names_decide}
 use Rattle.store.proofs.Exact.{Enlisted, enlisted, read, wrote}
-use Rattle.days.specs.Promise.{AllInPlace, OnlyWrites}
+use Rattle.days.specs.Promise.{AllInPlace, OnlyLists}
 use Rattle.days.specs.Steps.{SeesPiece, SeesTo}
 use Rattle.days.proofs.Moves.{compares_equal}
 
@@ -42,9 +42,10 @@ module _ {S U : Type 0} where
 pub names_more : (ps : List (List ℕ)) (k : ℕ) → k < length ps → map digest_of (take (suc k) ps) ≡ map digest_of (take k ps) ++ digest_of (slice_index_or ps k []) ∷ []
 names_more ps k h = ap (map digest_of) (take-suc ps k [] h) ∙ map-append digest_of (take k ps) (slice_index_or ps k [] ∷ [])
 
-pub only_same : {s t : State} → t ≡ s → OnlyWrites s t
+pub only_same : {s t : State} → t ≡ s → OnlyLists s t
 only_same e =
     record {
+      place = ap (λ (z : State). z.place) e;
       aside = ap (λ (z : State). z.aside) e;
       own = ap (λ (z : State). z.own) e;
       days = ap (λ (z : State). z.days) e;
@@ -53,9 +54,10 @@ only_same e =
       sweep = ap (λ (z : State). z.sweep) e;
     }
 
-pub only_then : {s t u : State} → OnlyWrites s t → OnlyWrites t u → OnlyWrites s u
+pub only_then : {s t u : State} → OnlyLists s t → OnlyLists t u → OnlyLists s u
 only_then x y =
     record {
+      place = y.place ∙ x.place;
       aside = y.aside ∙ x.aside;
       own = y.own ∙ x.own;
       days = y.days ∙ x.days;
@@ -94,26 +96,21 @@ in_place_more s ns n all here q h = go (or_cases _ _ (sym (list_any-append (same
 
 -- what is so once a piece is seen to: it lies in its place, and whatever of a name lay in its place still does
 pub record SeenTo (p : List ℕ) (s t : State) : Type 0 where
-  pub only : OnlyWrites s t
+  pub machines : t.machines ≡ s.machines
   pub there : t.place (digest_of p) ≡ Some p
   pub others : (n : Digest) → InPlace s n → InPlace t n
 
 found_there : (p : List ℕ) (s t : State) → t ≡ s → s.place (digest_of p) ≡ Some p → SeenTo p s t
-found_there p s t e there = subst (SeenTo p s) (sym e) (record { only = only_same refl; there = there; others = λ n h. h })
+found_there p s t e there = subst (SeenTo p s) (sym e) (record { machines = refl; there = there; others = λ n h. h })
 
-written_there : (p : List ℕ) (s u t : State) → OnlyWrites s u → u.place ≡ s.place → with_place (digest_of p) (Some p) u ≡ t → SeenTo p s t
-written_there p s u t o e w =
-    subst (SeenTo p s) w
-    (record {
-      only = record { aside = o.aside; own = o.own; days = o.days; highest = o.highest; machines = o.machines; sweep = o.sweep };
-      there = placed (digest_of p) p u;
-      others = λ n h. in_place_still p u n (h.0, ap (λ (f : Digest → Option (List ℕ)). f n) e ∙ h.1, h.2);
-    })
+written_there : (p : List ℕ) (s u t : State) → OnlyLists s u → with_place (digest_of p) (Some p) u ≡ t → SeenTo p s t
+written_there p s u t o w =
+    subst (SeenTo p s) w (record { machines = o.machines; there = placed (digest_of p) p u; others = λ n h. in_place_still p u n (h.0, ap (λ (f : Digest → Option (List ℕ)). f n) o.place ∙ h.1, h.2) })
 
 -- a name was listed
-pub listed_only : (s t : State) (l : Listing) → Enlisted s l t → OnlyWrites s t × (t.place ≡ s.place)
-listed_only s t l (inl (there, same)) = (only_same (sym same), ap (λ (z : State). z.place) (sym same))
-listed_only s t l (inr (new, few, is)) = subst (λ (z : State). OnlyWrites s z × (z.place ≡ s.place)) is (record { aside = refl; own = refl; days = refl; highest = refl; machines = refl; sweep = refl }, refl)
+pub listed_only : (s t : State) (l : Listing) → Enlisted s l t → OnlyLists s t
+listed_only s t l (inl (there, same)) = only_same (sym same)
+listed_only s t l (inr (new, few, is)) = subst (OnlyLists s) is (record { place = refl; aside = refl; own = refl; days = refl; highest = refl; machines = refl; sweep = refl })
 
 module _ {S : Type 0} (does : Doing S) (holds : S → State) (exact : IsExact holds does) (i : ℕ) where
   pub seen_to : (p : List ℕ) (s t : S) (b : Bool) → SeesTo does i p s (Ok b) t → SeenTo p (holds s) (holds t)
@@ -122,22 +119,14 @@ module _ {S : Type 0} (does : Doing S) (holds : S → State) (exact : IsExact ho
       found_there p (holds s) (holds t) (ap holds last ∙ k.0) k.1
   seen_to p s t true (b, other, (m, asked, (m', listed, (m'', written, last)))) =
       let k = read _ _ Place (digest_of p) b (exact s m _ _ asked) in
-      let l = listed_only _ _ _ (enlisted _ _ _ (exact m m' _ _ listed)) in
-      written_there p (holds s) (holds m') (holds t) (only_then (only_same k.0) l.0) (l.1 ∙ ap (λ (z : State). z.place) k.0) (wrote _ _ (digest_of p) p (exact m' m'' _ _ written) ∙ ap holds (sym last))
+      written_there p (holds s) (holds m') (holds t) (only_then (only_same k.0) (listed_only _ _ _ (enlisted _ _ _ (exact m m' _ _ listed)))) (wrote _ _ (digest_of p) p (exact m' m'' _ _ written) ∙ ap holds (sym last))
 
   -- after the first pieces of a list
-  pub record AllSeen (ps : List (List ℕ)) (s : State) (k : ℕ) (t : S) : Type 0 where
-    pub only : OnlyWrites s (holds t)
-    pub all : AllInPlace (holds t) (map digest_of (take k ps))
-
-  pub all_seen : (ps : List (List ℕ)) (k : ℕ) (s t : S) (u v : ℕ) → k ≤ length ps → Times (at [] (SeesPiece does i) ps) k s u t v → AllSeen ps (holds s) k t
+  pub all_seen : (ps : List (List ℕ)) (k : ℕ) (s t : S) (u v : ℕ) → k ≤ length ps → Times (at [] (SeesPiece does i) ps) k s u t v → AllInPlace (holds t) (map digest_of (take k ps))
   all_seen ps k s t u v le h =
-      times_run _ (AllSeen ps (holds s)) (length ps) s u (record { only = only_same refl; all = λ n e. absurd cc })
+      times_run _ (λ j m. AllInPlace (holds m) (map digest_of (take j ps))) (length ps) s u (λ n e. absurd cc)
       (λ j m t w v lt before g.
       let p = slice_index_or ps j [] in
       let now : SeenTo p (holds m) (holds t) = seen_to p m t g.0 g.1 in
-      record {
-        only = only_then before.only now.only;
-        all = subst (AllInPlace (holds t)) (sym (names_more ps j lt)) (in_place_more (holds t) _ (digest_of p) (λ n e. now.others n (before.all n e)) (p, now.there, refl));
-      })
+      subst (AllInPlace (holds t)) (sym (names_more ps j lt)) (in_place_more (holds t) _ (digest_of p) (λ n e. now.others n (before n e)) (p, now.there, refl)))
       k t v le h

@@ -14,7 +14,7 @@ use Rattle.days.specs.declared.done.Added.{Added as Count}
 use Rattle.days.specs.declared.done.Done.{Done}
 use Rattle.days.specs.declared.done.Done.TheVariants.{Begun, Found, Written, Added, Raised, Named, BrokenOff}
 use Rattle.days.specs.Machines.{Work, new_day}
-use Rattle.days.specs.Steps.{Adds, AddsCut, Begins, DayAdds, DayRaises, Ends, ForDay, GoesOn, Names, NotNamed, Raises, SeesAll, SeesPiece, SeesTo}
+use Rattle.days.specs.Steps.{Adds, AddsCut, Begins, DayAdds, DayRaises, Ends, ForDay, GoesOn, ListsAbsent, ListsAll, Names, NotNamed, Raises, SeesAll, SeesFile, SeesPiece, SeesTo}
 use Rattle.store.proofs.Exact.{refused}
 use Rattle.days.proofs.Seen.{each_is_done, each_is_stopped, times_run}
 
@@ -87,13 +87,37 @@ module _ {S : Type 0} (does : Doing S) (holds : S → State) (exact : IsExact ho
             let (k, lt, m, w, times, last) = each_is_stopped [] (SeesPiece does i) ps s t u v r x in
             sees_to (slice_index_or ps k []) m t (Err r) last ∙ first k m w (omega arith) times
 
+    lists_absent : (p : List ℕ) (s t : S) (u v : Unit {0}) (a : Result (Unit {0}) Refusal) → ListsAbsent does i p s u a t v → Same s t
+    lists_absent p s t u v (Ok tt) (inl x) = one x tt
+    lists_absent p s t u v (Ok tt) (inr (b, other, x)) = two x tt tt
+    lists_absent p s t u v (Err r) (inl x) = one x tt
+    lists_absent p s t u v (Err r) (inr (b, other, x)) = two x tt tt
+
+    lists_all : (ps : List (List ℕ)) (s t : S) (a : Result (Unit {0}) Refusal) → ListsAll does i ps s tt a t tt → Same s t
+    lists_all ps s t a x = go a x
+      where
+        first : (k : ℕ) (m : S) (w : Unit {0}) → k ≤ length ps → Times (at [] (ListsAbsent does i) ps) k s tt m w → Same s m
+        first k m w le h = times_run _ (λ j n. Same s n) (length ps) s tt refl (λ j n o y z lt before g. lists_absent (slice_index_or ps j []) n o y z (Ok tt) g ∙ before) k m w le h
+
+        go : (a : Result (Unit {0}) Refusal) → ListsAll does i ps s tt a t tt → Same s t
+        go (Ok tt) x = first (length ps) t tt (omega arith) (each_is_done [] (ListsAbsent does i) ps s t tt tt x)
+        go (Err r) x =
+            let (k, lt, m, w, times, last) = each_is_stopped [] (ListsAbsent does i) ps s t tt tt r x in
+            lists_absent (slice_index_or ps k []) m t w tt (Err r) last ∙ first k m w (omega arith) times
+
+    sees_file : (ps : List (List ℕ)) (s t : S) (a : Result (Unit {0}) Refusal) (n : ℕ) → SeesFile does i ps s a t n → Same s t
+    unfolding SeesFile
+    sees_file ps s t (Ok tt) n (m, listed, all) = sees_all ps m t 0 n (Ok tt) all ∙ lists_all ps s m (Ok tt) listed
+    sees_file ps s t (Err r) n (inl unlisted) = lists_all ps s t (Err r) unlisted
+    sees_file ps s t (Err r) n (inr (m, listed, unseen)) = sees_all ps m t 0 n (Err r) unseen ∙ lists_all ps s m (Ok tt) listed
+
     day_adds : (path : List ℕ) (ps : List (List ℕ)) (w v : Work) (s t : S) (a : Result Count Refusal) → DayAdds does i path ps w s a v t → Same s t
-    day_adds path ps w v s t (Ok a) (may, all, count, g) = sees_all ps s t 0 a.written (Ok tt) all
+    day_adds path ps w v s t (Ok a) (may, all, count, g) = sees_file ps s t (Ok tt) a.written all
     day_adds path ps w v s t (Err r) (g, inl (is, e)) = same e
     day_adds path ps w v s t (Err r) (g, inr (inl (is, e))) = same e
     day_adds path ps w v s t (Err r) (g, inr (inr (inl (n, has, are, is, e)))) = same e
-    day_adds path ps w v s t (Err r) (g, inr (inr (inr (may, c, inl stopped)))) = sees_all ps s t 0 c (Err r) stopped
-    day_adds path ps w v s t (Err r) (g, inr (inr (inr (may, c, inr (all, is))))) = sees_all ps s t 0 c (Ok tt) all
+    day_adds path ps w v s t (Err r) (g, inr (inr (inr (may, c, inl stopped)))) = sees_file ps s t (Err r) c stopped
+    day_adds path ps w v s t (Err r) (g, inr (inr (inr (may, c, inr (all, is))))) = sees_file ps s t (Ok tt) c all
 
     adds_cut : (path file : List ℕ) (w v : Work) (s t : S) (a : Result Done Refusal) → AddsCut does i path file w s a v t → Same s t
     adds_cut path file w v s t (Ok (Added a)) x = day_adds path (pieces file) w v s t (Ok a) x

@@ -11,18 +11,19 @@ use Rattle.store.specs.declared.piece.Spot.TheVariants.{Place}
 use Rattle.store.specs.Asking.{Doing, IsExact}
 use Rattle.store.specs.Effects.{with_day, with_highest, with_place}
 use Rattle.store.specs.Loops.{Times, at}
-use Rattle.store.specs.Requests.{Read, Highest, Raise, Done, Bytes}
+use Rattle.store.specs.Requests.{Highest, Raise}
 use Rattle.store.specs.State.{State, last_number, most_in_piece}
 use Rattle.days.specs.declared.done.Added.{Added as Count}
 use Rattle.days.specs.declared.done.Done.TheVariants.{Begun, Found, Written, Added, Raised, Named, BrokenOff}
 use Rattle.days.specs.declared.done.Done.{Done as StepDone}
 use Rattle.days.specs.Machines.{Work, new_day, with_number, with_piece}
 use Rattle.days.specs.Within.{AreSteps}
-use Rattle.days.specs.Steps.{Adds, AddsCut, Begins, Breaks, DayAdds, DayRaises, DaySees, Ends, ForDay, GoesOn, NoDay, Sees, SeesPiece, SeesTo, enlist, entry, name, place_path, write}
+use Rattle.days.specs.Steps.{Adds, AddsCut, Begins, Breaks, DayAdds, DayRaises, DaySees, Ends, ForDay, GoesOn, ListsAbsent, ListsAll, NoDay, Sees, SeesFile, SeesPiece, SeesTo, entry, name, place_path}
 use Rattle.days.specs.System.{Makes, Within, World, adds, begins, breaks, finds, forgets, lists, names, raises, still, world, writes}
-use Rattle.store.proofs.Exact.{Enlisted, enlisted, highest, named, raised, read, wrote}
+use Rattle.store.proofs.Exact.{Enlisted, highest, named, raised, read}
 use Rattle.days.proofs.Cuts.{Fit, fit, fit_one}
-use Rattle.days.proofs.Moves.{after, at_last, at_most, listed_here, moves, not_on, on, put_here, put_put, stays, unmoved}
+use Rattle.days.proofs.Listed.{AllReady, Ready, all_listed, lists_after, listing, looked_for, not_looked_for, not_seen_to, ready_seen, writes_only}
+use Rattle.days.proofs.Moves.{after, at_last, at_most, moves, not_on, on, put_here, stays, unmoved}
 use Rattle.days.proofs.Seen.{each_is_done, each_is_stopped, names_more, seen_to, times_run}
 
 module _ {S : Type 0} (does : Doing S) (holds : S → State) (exact : IsExact holds does) where
@@ -99,59 +100,37 @@ module _ {S : Type 0} (does : Doing S) (holds : S → State) (exact : IsExact ho
   ends w i s t (Ok BrokenOff) new d e o h x = absurd x
   ends w i s t (Ok (Added k)) new d e o h x = absurd x
 
-  -- After a name is listed for a machine, or was: what holds before its piece is written.
-  record Listed (w : World) (i : ℕ) (d : Work) (p : List ℕ) (t : State) : Type 0 where
-    run : Within 1 w (world t i (Some d) w)
-    on_list : t.machines i ≡ true
-    listed : t.listed (record { machine = i; name = digest_of p }) ≡ true
+  -- a name is listed for a machine, or was
+  lists_run : (w : World) (i : ℕ) (d : Work) (p : List ℕ) (t : State) → Makes w i d → Enlisted w.store (listing i p) t → Within 1 w (world t i (Some d) w)
+  lists_run w i d p t m (inl (l, same)) = stays w i t (Some d) (sym same) (sym m.makes)
+  lists_run w i d p t m (inr (l, few, is)) = moves w w i _ t (Some d) (Some d) still (lists w i d (digest_of p) m l few) is refl
 
-  lists_run : (w : World) (i : ℕ) (d : Work) (p : List ℕ) (t : State) → Makes w i d → Enlisted w.store (record { machine = i; name = digest_of p }) t → Listed w i d p t
-  lists_run w i d p t m (inl (l, same)) =
-      record {
-        run = stays w i t (Some d) (sym same) (sym m.makes);
-        on_list = ap (λ (z : State). z.machines i) (sym same) ∙ m.on_list;
-        listed = ap (λ (z : State). z.listed (record { machine = i; name = digest_of p })) (sym same) ∙ l;
-      }
-  lists_run w i d p t m (inr (l, few, is)) =
-      record {
-        run = moves w w i _ t (Some d) (Some d) still (lists w i d (digest_of p) m l few) is refl;
-        on_list = ap (λ (z : State). z.machines i) (sym is) ∙ m.on_list;
-        listed = ap (λ (z : State). z.listed (record { machine = i; name = digest_of p })) (sym is) ∙ listed_here (record { machine = i; name = digest_of p }) w.store;
-      }
+  -- so where it is looked for in its place before
+  looks_run : (w : World) (i : ℕ) (d : Work) (p : List ℕ) (s t : S) (u v : Unit {0}) → Makes w i d → w.store ≡ holds s → ListsAbsent does i p s u (Ok tt) t v → Within 1 w (world (holds t) i (Some d) w)
+  looks_run w i d p s t u v k h (inl (m, asked, last)) = stays w i (holds t) (Some d) (ap holds last ∙ (read _ _ Place (digest_of p) (Some p) (exact s m _ _ asked)).0 ∙ sym h) (sym k.makes)
+  looks_run w i d p s t u v k h (inr (b, other, (m, asked, (m', listed, last)))) =
+      lists_run w i d p (holds t) k (subst (λ (z : State × State). Enlisted z.0 (listing i p) z.1) (λ j. (sym h j, ap holds (sym last) j)) (lists_after does holds exact i p b s m m' asked listed))
 
-  -- as the code does it: its place was read before
-  enlists : (w : World) (i : ℕ) (d : Work) (p : List ℕ) (s m t : S) (b : Option (List ℕ)) → Makes w i d → w.store ≡ holds s → does s (Read Place (digest_of p)) (Bytes b) m → does m (enlist i p) Done t → Listed w i d p (holds t)
-  enlists w i d p s m t b k h asked listed =
-      let now : w.store ≡ holds m = h ∙ sym (read _ _ Place (digest_of p) b (exact s m _ _ asked)).0 in
-      lists_run w i d p (holds t) k (subst (λ (z : State). Enlisted z (record { machine = i; name = digest_of p }) (holds t)) (sym now) (enlisted _ _ _ (exact m t _ _ listed)))
+  -- the names of the first k pieces are listed
+  lists_all_run : (w : World) (i : ℕ) (d : Work) (ps : List (List ℕ)) (k : ℕ) (s t : S) (u v : Unit {0}) → Makes w i d → w.store ≡ holds s → k ≤ length ps → Times (at [] (ListsAbsent does i) ps) k s u t v → Within k w (world (holds t) i (Some d) w) × ((holds t).machines i ≡ true)
+  lists_all_run w i d ps k s t u v makes h le times =
+      times_run _ (λ j m. Within j w (world (holds m) i (Some d) w) × ((holds m).machines i ≡ true)) (length ps) s u
+      (stays w i (holds s) (Some d) (sym h) (sym makes.makes), ap (λ (z : State). z.machines i) (sym h) ∙ makes.on_list)
+      (λ j m t x y lt before g.
+      let p = slice_index_or ps j [] in
+      let u = world (holds m) i (Some d) w in
+      let run = looks_run u i d p m t x y (record { on_list = before.1; makes = put_here i (Some d) w.makes; no_number = makes.no_number }) refl g in
+      (at_most (omega arith) (at_last w w i (holds m) (holds t) (Some d) (Some d) (after before.0 run)), ap (λ f. f i) (looked_for does holds exact i p m t x y g).only.machines ∙ before.1))
+      k t v le times
 
-  -- and then its piece is written
-  writes_run : (w : World) (i : ℕ) (d : Work) (p : List ℕ) (u t : State) (new : Option Work) → length p ≤ most_in_piece → d.number ≡ None → Listed w i d p u → with_place (digest_of p) (Some p) u ≡ t →
-      Some (with_piece (digest_of p) d) ≡ new → Within 2 w (world t i new w)
-  writes_run w i d p u t new fits n l e f =
-      let v = world u i (Some d) w in
-      subst (λ (g : ℕ → Option Work). Within 2 w (record { store = t; makes = g })) (put_put i (Some d) new w.makes)
-      (moves w v i _ t _ new l.run (writes v i d p (record { on_list = l.on_list; makes = put_here i (Some d) w.makes; no_number = n }) fits l.listed) e f)
-
-  -- a piece is seen to
-  piece_run : (p : List ℕ) (w : World) (i : ℕ) (s t : S) (b : Bool) (d : Work) → length p ≤ most_in_piece → Makes w i d → w.store ≡ holds s → SeesTo does i p s (Ok b) t → Within 2 w (world (holds t) i (Some (with_piece (digest_of p) d)) w)
-  piece_run p w i s t false d fits k h (m, asked, last) =
+  -- a piece that is there or listed is seen to
+  piece_run : (p : List ℕ) (w : World) (i : ℕ) (s t : S) (b : Bool) (d : Work) → length p ≤ most_in_piece → Makes w i d → w.store ≡ holds s → Ready i (holds s) p → SeesTo does i p s (Ok b) t → Within 1 w (world (holds t) i (Some (with_piece (digest_of p) d)) w)
+  piece_run p w i s t false d fits k h ready (m, asked, last) =
       let is = read _ _ Place (digest_of p) (Some p) (exact s m _ _ asked) in
       moves w w i w.store (holds t) _ _ still (finds w i d p k fits (ap (λ (z : State). z.place (digest_of p)) h ∙ is.1)) (h ∙ sym is.0 ∙ ap holds (sym last)) refl
-  piece_run p w i s t true d fits k h (b, other, (m, asked, (m', listed, (m'', written, last)))) =
-      writes_run w i d p (holds m') (holds t) _ fits k.no_number (enlists w i d p s m m' b k h asked listed) (wrote _ _ (digest_of p) p (exact m' m'' _ _ written) ∙ ap holds (sym last)) refl
-
-  -- where nothing has changed
-  stayed : (w : World) (i : ℕ) (t : State) (d : Work) → Makes w i d → t ≡ w.store → Within 1 w (world t i (Some d) w) × (t.machines i ≡ true)
-  stayed w i t d k e = (stays w i t (Some d) e (sym k.makes), ap (λ (z : State). z.machines i) e ∙ k.on_list)
-
-  -- a piece is not seen to: its name may have been listed
-  no_piece_run : (p : List ℕ) (w : World) (i : ℕ) (s t : S) (r : Refusal) (d : Work) → Makes w i d → w.store ≡ holds s → SeesTo does i p s (Err r) t → Within 1 w (world (holds t) i (Some d) w) × ((holds t).machines i ≡ true)
-  no_piece_run p w i s t r d k h (inl x) = stayed w i (holds t) d k (unmoved does holds exact s t (Read Place (digest_of p)) r x ∙ sym h)
-  no_piece_run p w i s t r d k h (inr (b, other, inl (m, asked, x))) = stayed w i (holds t) d k (unmoved does holds exact m t (enlist i p) r x ∙ (read _ _ Place (digest_of p) b (exact s m _ _ asked)).0 ∙ sym h)
-  no_piece_run p w i s t r d k h (inr (b, other, inr (m, asked, (m', listed, x)))) =
-      let l = enlists w i d p s m m' b k h asked listed in
-      subst (λ (z : State). Within 1 w (world z i (Some d) w) × (z.machines i ≡ true)) (sym (unmoved does holds exact m' t (write p) r x)) (l.run, l.on_list)
+  piece_run p w i s t true d fits k h ready x =
+      let is = writes_only does holds exact i p s t ready x in
+      moves w w i _ (holds t) _ _ still (writes w i d p k fits (ap (λ (z : State). z.listed (listing i p)) h ∙ is.0)) (ap (with_place (digest_of p) (Some p)) h ∙ is.1) refl
 
   -- what was seen to counts no more: the day is as it was
   forgets_run : {n : ℕ} (w : World) (i : ℕ) (d d' v : Work) (t : State) → d.seen ≡ [] → v ≡ d → d'.number ≡ None → t.machines i ≡ true → (d'.files ≡ d.files) × (d'.number ≡ d.number) → Within n w (world t i (Some d') w) → Within (suc n) w (world t i (Some v) w)
@@ -161,32 +140,42 @@ module _ {S : Type 0} (does : Doing S) (holds : S → State) (exact : IsExact ho
       (moves w u i _ t _ (Some v) r (forgets u i d' (record { on_list = o; makes = put_here i (Some d') w.makes; no_number = n })) refl
       (ap Some ((λ j. record { files = same.0 j; seen = sym none j; number = same.1 j }) ∙ sym g)))
 
-  -- the first k pieces of a file are seen to, for a day for whose next file nothing was
+  -- the names of all pieces of a file are listed, and its first k pieces are seen to, for a day for whose next file nothing was
   record Reached (w : World) (i : ℕ) (d : Work) (ps : List (List ℕ)) (k : ℕ) (t : S) : Type 0 where
-    run : Within (2 * k) w (world (holds t) i (Some (record d { seen = map digest_of (take k ps) })) w)
+    run : Within (length ps + k) w (world (holds t) i (Some (record d { seen = map digest_of (take k ps) })) w)
     on_list : (holds t).machines i ≡ true
+    ready : AllReady i ps (length ps) (holds t)
 
-  reached : (w : World) (i : ℕ) (d : Work) (ps : List (List ℕ)) (k : ℕ) (s t : S) (u v : ℕ) → Fit ps → Makes w i d → d.seen ≡ [] → w.store ≡ holds s → k ≤ length ps → Times (at [] (SeesPiece does i) ps) k s u t v → Reached w i d ps k t
-  reached w i d ps k s t u v fits makes none h le times =
-      times_run _ (Reached w i d ps) (length ps) s u
-      (record { run = stays w i (holds s) _ (sym h) (ap (λ (ns : List Digest). Some (record d { seen = ns })) (sym none) ∙ sym makes.makes); on_list = ap (λ (z : State). z.machines i) (sym h) ∙ makes.on_list })
+  reached : (w : World) (i : ℕ) (d : Work) (ps : List (List ℕ)) (k : ℕ) (s m t : S) (u v : ℕ) → Fit ps → Makes w i d → d.seen ≡ [] → w.store ≡ holds s → ListsAll does i ps s tt (Ok tt) m tt → k ≤ length ps → Times (at [] (SeesPiece does i) ps) k m u t v → Reached w i d ps k t
+  reached w i d ps k s m t u v fits makes none h listed le times =
+      let first = each_is_done [] (ListsAbsent does i) ps s m tt tt listed in
+      let lists = lists_all_run w i d ps (length ps) s m tt tt makes h (omega arith) first in
+      times_run _ (Reached w i d ps) (length ps) m u
+      (record {
+        run = at_most (omega arith) (subst (λ (ns : List Digest). Within (length ps) w (world (holds m) i (Some (record d { seen = ns })) w)) none lists.0);
+        on_list = lists.1;
+        ready = (all_listed does holds exact i ps (length ps) s m tt tt (omega arith) first).ready;
+      })
       (λ j m t x y lt before g.
       let p = slice_index_or ps j [] in
       let d' : Work = record d { seen = map digest_of (take j ps) } in
       let v = world (holds m) i (Some d') w in
-      let run : Within 2 v (world (holds t) i (Some (with_piece (digest_of p) d')) v) = piece_run p v i m t g.0 d' (fits j lt) (record { on_list = before.on_list; makes = put_here i (Some d') w.makes; no_number = makes.no_number }) refl g.1 in
+      let run : Within 1 v (world (holds t) i (Some (with_piece (digest_of p) d')) v) =
+      piece_run p v i m t g.0 d' (fits j lt) (record { on_list = before.on_list; makes = put_here i (Some d') w.makes; no_number = makes.no_number }) refl (before.ready j lt) g.1 in
       record {
-        run = subst (λ (ns : List Digest). Within (2 * suc j) w (world (holds t) i (Some (record d { seen = ns })) w)) (sym (names_more ps j lt))
+        run = subst (λ (ns : List Digest). Within (length ps + suc j) w (world (holds t) i (Some (record d { seen = ns })) w)) (sym (names_more ps j lt))
             (at_most (omega arith) (at_last w w i (holds m) (holds t) (Some d') _ (after before.run run)));
-        on_list = ap (λ f. f i) (seen_to does holds exact i p m t g.0 g.1).only.machines ∙ before.on_list;
+        on_list = ap (λ f. f i) (seen_to does holds exact i p m t g.0 g.1).machines ∙ before.on_list;
+        ready = λ q l. ready_seen does holds exact i (slice_index_or ps q []) p m t g.0 g.1 (before.ready q l);
       })
       k t v le times
 
   -- a file is added, or it is not
   day_adds : (path : List ℕ) (ps : List (List ℕ)) (w : World) (i : ℕ) (s t : S) (a : Result Count Refusal) (d v : Work) → Fit ps → w.makes i ≡ Some d → w.store.machines i ≡ true → w.store ≡ holds s → DayAdds does i path ps d s a v t → Within (2 * length ps + 1) w (world (holds t) i (Some v) w)
-  day_adds path ps w i s t (Ok a) d v fits e o h ((are, n, none), all, count, g) =
+  unfolding SeesFile
+  day_adds path ps w i s t (Ok a) d v fits e o h ((are, n, none), (m, listed, all), count, g) =
       let k = length ps in
-      let x = reached w i d ps k s t 0 a.written fits (makes w i d e o n) none h (omega arith) (each_is_done [] (SeesPiece does i) ps s t 0 a.written all) in
+      let x = reached w i d ps k s m t 0 a.written fits (makes w i d e o n) none h listed (omega arith) (each_is_done [] (SeesPiece does i) ps m t 0 a.written all) in
       let d' : Work = record d { seen = map digest_of (take k ps) } in
       let u = world (holds t) i (Some d') w in
       at_most (omega arith) (at_last w w i (holds t) (holds t) (Some d') (Some v)
@@ -194,15 +183,18 @@ module _ {S : Type 0} (does : Doing S) (holds : S → State) (exact : IsExact ho
   day_adds path ps w i s t (Err r) d v fits e o h (g, inl (is, same)) = stays w i (holds t) (Some v) (ap holds same ∙ sym h) (ap Some g ∙ sym e)
   day_adds path ps w i s t (Err r) d v fits e o h (g, inr (inl (is, same))) = stays w i (holds t) (Some v) (ap holds same ∙ sym h) (ap Some g ∙ sym e)
   day_adds path ps w i s t (Err r) d v fits e o h (g, inr (inr (inl (k, has, are, is, same)))) = stays w i (holds t) (Some v) (ap holds same ∙ sym h) (ap Some g ∙ sym e)
-  day_adds path ps w i s t (Err r) d v fits e o h (g, inr (inr (inr ((are, n, none), c, inl stopped)))) =
-      let (k, lt, m, y, times, last) = each_is_stopped [] (SeesPiece does i) ps s t 0 c r stopped in
-      let x = reached w i d ps k s m 0 y fits (makes w i d e o n) none h (omega arith) times in
-      let d' : Work = record d { seen = map digest_of (take k ps) } in
-      let u = world (holds m) i (Some d') w in
-      let z = no_piece_run (slice_index_or ps k []) u i m t r d' (record { on_list = x.on_list; makes = put_here i (Some d') w.makes; no_number = n }) refl last in
-      at_most (omega arith) (forgets_run w i d d' v (holds t) none g n z.1 (refl, refl) (at_last w w i (holds m) (holds t) (Some d') (Some d') (after x.run z.0)))
-  day_adds path ps w i s t (Err r) d v fits e o h (g, inr (inr (inr ((are, n, none), c, inr (all, is))))) =
-      let x = reached w i d ps (length ps) s t 0 c fits (makes w i d e o n) none h (omega arith) (each_is_done [] (SeesPiece does i) ps s t 0 c all) in
+  day_adds path ps w i s t (Err r) d v fits e o h (g, inr (inr (inr ((are, n, none), c, inl (inl unlisted))))) =
+      let (k, lt, m, y, times, last) = each_is_stopped [] (ListsAbsent does i) ps s t tt tt r unlisted in
+      let x = lists_all_run w i d ps k s m tt y (makes w i d e o n) h (omega arith) times in
+      let same = (not_looked_for does holds exact i (slice_index_or ps k []) m t y tt r last).0 in
+      at_most (omega arith) (subst (λ (z : State × Work). Within k w (world z.0 i (Some z.1) w)) (λ j. (sym same j, sym g j)) x.0)
+  day_adds path ps w i s t (Err r) d v fits e o h (g, inr (inr (inr ((are, n, none), c, inl (inr (m, listed, unseen)))))) =
+      let (k, lt, q, y, times, last) = each_is_stopped [] (SeesPiece does i) ps m t 0 c r unseen in
+      let x = reached w i d ps k s m q 0 y fits (makes w i d e o n) none h listed (omega arith) times in
+      let same = (not_seen_to does holds exact i (slice_index_or ps k []) q t r (x.ready k lt) last).0 in
+      at_most (omega arith) (subst (λ (z : State). Within (suc (length ps + k)) w (world z i (Some v) w)) (sym same) (forgets_run w i d _ v (holds q) none g n x.on_list (refl, refl) x.run))
+  day_adds path ps w i s t (Err r) d v fits e o h (g, inr (inr (inr ((are, n, none), c, inr ((m, listed, all), is))))) =
+      let x = reached w i d ps (length ps) s m t 0 c fits (makes w i d e o n) none h listed (omega arith) (each_is_done [] (SeesPiece does i) ps m t 0 c all) in
       at_most (omega arith) (forgets_run w i d _ v (holds t) none g n x.on_list (refl, refl) x.run)
 
   -- see to a piece, as a file of its own

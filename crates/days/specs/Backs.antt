@@ -1,6 +1,6 @@
 -- Having a file back: what is asked of a store, in which order, and what is answered. Each leads the store from s to t.
 -- Assumes nothing.
-use Rattle.std.specs.Prelude.{◌≡◌, ◌≢◌, ◌⊎◌, ℕ, ◌+◌, ◌<◌, ◌≤◌, List, [], ◌++◌, length, Contains, Some, None, Ok, Err, Option, Result, Vec, vec_items}
+use Rattle.std.specs.Prelude.{◌≡◌, ◌≢◌, ◌⊎◌, ℕ, ◌+◌, ◌<◌, ◌≤◌, List, [], ◌∷◌, ◌++◌, length, Contains, Some, None, Ok, Err, Option, Result, Vec, vec_items}
 use Rattle.std.specs.declared.alloc.Global.{Global}
 use Rattle.cutting.specs.declared.refusal.Refusal.{Refusal}
 use Rattle.cutting.specs.declared.refusal.Refusal.TheVariants.{BadDay, NoMemory, Unknown}
@@ -25,6 +25,10 @@ Extends most old piece (Err r) new = (most < length old + length piece) × (r �
 abbrev pub HasNoPath : List Entry → List ℕ → Type 0
 HasNoPath es path = (e : Entry) → Contains es e → e.path ≢ path
 
+-- where a piece is looked for, one after the other: in its place, aside, and in its place again, since it may have been put back between the first two looks
+abbrev pub looks : List Spot
+looks = Place ∷ Aside ∷ Place ∷ []
+
 module _ {S : Type 0} (does : Doing S) where
   -- what lies in a spot under a name is read: bytes of that name; or nothing lies there, or other bytes
   abbrev pub ReadsRight : Spot → Digest → S → Result (Option (Vec ℕ Global)) Refusal → S → Type 0
@@ -32,12 +36,16 @@ module _ {S : Type 0} (does : Doing S) where
   ReadsRight spot n s (Ok None) t = (x : Option (List ℕ)) × does s (Read spot n) (Bytes x) t × ((b : List ℕ) → x ≡ Some b → digest_of b ≢ n)
   ReadsRight spot n s (Err r) t = does s (Read spot n) (Refused r) t
 
-  -- a piece is read from its place, else from aside
+  -- a piece is read from the first of these spots that has its bytes; or one cannot be read, or none has them
+  abbrev pub ReadsFrom : List Spot → Digest → S → Result (Vec ℕ Global) Refusal → S → Type 0
+  ReadsFrom [] n s (Ok v) t = ⊥
+  ReadsFrom [] n s (Err r) t = (t ≡ s) × (r ≡ BadDay)
+  ReadsFrom (spot ∷ spots) n s (Ok v) t = ReadsRight spot n s (Ok (Some v)) t ⊎ ((m : S) × ReadsRight spot n s (Ok None) m × ReadsFrom spots n m (Ok v) t)
+  ReadsFrom (spot ∷ spots) n s (Err r) t = ReadsRight spot n s (Err r) t ⊎ ((m : S) × ReadsRight spot n s (Ok None) m × ReadsFrom spots n m (Err r) t)
+
+  -- it is read so from these
   abbrev pub ReadsPiece : Digest → S → Result (Vec ℕ Global) Refusal → S → Type 0
-  ReadsPiece n s (Ok v) t = ReadsRight Place n s (Ok (Some v)) t ⊎ ((m : S) × ReadsRight Place n s (Ok None) m × ReadsRight Aside n m (Ok (Some v)) t)
-  ReadsPiece n s (Err r) t =
-      ReadsRight Place n s (Err r) t
-      ⊎ ((m : S) × ReadsRight Place n s (Ok None) m × (ReadsRight Aside n m (Err r) t ⊎ (ReadsRight Aside n m (Ok None) t × (r ≡ BadDay))))
+  ReadsPiece = ReadsFrom looks
 
   -- and its bytes come after those that are there; or it is not read, or they are too many
   abbrev pub JoinsPiece : ℕ → Digest → Go S (List ℕ)

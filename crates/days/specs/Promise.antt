@@ -27,8 +27,9 @@ file_entry path file = record { path = path; length = length file; pieces = map 
 abbrev pub AllInPlace : State → List Digest → Type 0
 AllInPlace s ns = (n : Digest) → is_in n ns ≡ true → (b : List ℕ) × (s.place n ≡ Some b) × (digest_of b ≡ n)
 
--- nothing but what lies in places and in the lists of machines is changed
-pub record OnlyWrites (s t : State) : Type 0 where
+-- nothing but what is in the lists of machines is changed
+pub record OnlyLists (s t : State) : Type 0 where
+  pub place : t.place ≡ s.place
   pub aside : t.aside ≡ s.aside
   pub own : t.own ≡ s.own
   pub days : t.days ≡ s.days
@@ -57,9 +58,9 @@ module _ {S : Type 0} (does : Doing S) where
         (w : Work) × (old ≡ Some w) × (w.number ≡ Some k) × ((holds t).days (record { machine = i; number = k }) ≡ Some (day_file (record { machine = i; number = k }) w.files))
     -- a step that is refused by a number changes nothing
     pub refused : (i k : ℕ) (old new : Option Work) (s t : S) (r : Refusal) → number_of r ≡ Some k → Steps i old s (Err r) new t → (holds t ≡ holds s) × (new ≡ old)
-    -- a file that is refused is not in the day; and nothing changes but where the lists are full, and then nothing but what lies in places and in the lists of machines
+    -- a file that is refused by a number is not in the day, and no piece of it is written; and nothing changes but where the lists are full, and then nothing but what is in the lists of machines
     pub add_refused : (i k : ℕ) (path file : List ℕ) (old new : Option Work) (s t : S) (r : Refusal) → number_of r ≡ Some k → Adds does i path file old s (Err r) new t →
-        (new ≡ old) × OnlyWrites (holds s) (holds t) × ((r ≡ TooManyNames → ⊥) → holds t ≡ holds s)
+        (new ≡ old) × OnlyLists (holds s) (holds t) × ((r ≡ TooManyNames → ⊥) → holds t ≡ holds s)
 
   -- this is so on every exact store
   abbrev pub Promised : Type 0

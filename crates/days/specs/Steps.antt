@@ -112,21 +112,35 @@ module _ {S : Type 0} (does : Doing S) (i : ℕ) where
   abbrev pub SeesAll : List (List ℕ) → Go S ℕ
   SeesAll ps = Each [] SeesPiece ps
 
+  -- a piece that is to be seen to is looked for: its very bytes are found in its place, or else its name is listed; or neither
+  abbrev pub ListsAbsent : List ℕ → Go S (Unit {0})
+  ListsAbsent p s u (Ok x) t v = Asked does s (in_place (digest_of p) (Some p) ∷ []) t ⊎ ((b : Option (List ℕ)) × (b ≢ Some p) × Asked does s (in_place (digest_of p) b ∷ done (enlist i p) ∷ []) t)
+  ListsAbsent p s u (Err r) t v = Asked does s (fails (Read Place (digest_of p)) r ∷ []) t ⊎ ((b : Option (List ℕ)) × (b ≢ Some p) × Asked does s (in_place (digest_of p) b ∷ fails (enlist i p) r ∷ []) t)
+
+  -- so is each piece of a file, in their order
+  abbrev pub ListsAll : List (List ℕ) → Go S (Unit {0})
+  ListsAll ps = Each [] ListsAbsent ps
+
+  -- First the names of all pieces of a file that are not there are listed, and then each is seen to, and how many were written is counted; or one is not listed, or not seen to.
+  unfoldable pub SeesFile : List (List ℕ) → S → Result (Unit {0}) Refusal → S → ℕ → Type 0
+  SeesFile ps s (Ok x) t n = (m : S) × ListsAll ps s tt (Ok tt) m tt × SeesAll ps m 0 (Ok tt) t n
+  SeesFile ps s (Err r) t n = ListsAll ps s tt (Err r) t tt ⊎ ((m : S) × ListsAll ps s tt (Ok tt) m tt × SeesAll ps m 0 (Err r) t n)
+
   -- a file may be added: it may follow the others, the number of the day is not raised, and nothing is seen to yet for the next file
   abbrev pub MayAdd : Entry → Work → Type 0
   MayAdd e w = AreFiles (w.files ++ e ∷ []) × (w.number ≡ None) × (w.seen ≡ [])
 
-  -- why a file is not added: there is no memory; it may not follow the others; the number of the day is raised; or a piece is not seen to, or there is no memory to keep it then
+  -- why a file is not added: there is no memory; it may not follow the others; the number of the day is raised; or a piece is not listed or not seen to, or there is no memory to keep the file then
   abbrev pub NotAdded : List ℕ → List (List ℕ) → Work → S → Refusal → S → Type 0
   NotAdded path ps w s r t =
       ((r ≡ NoMemory) × (t ≡ s))
       ⊎ ((Misfits w.files (entry path ps) r × (t ≡ s))
       ⊎ (((k : ℕ) × (w.number ≡ Some k) × AreFiles (w.files ++ entry path ps ∷ []) × (r ≡ HasNumber) × (t ≡ s))
-      ⊎ (MayAdd (entry path ps) w × (n : ℕ) × (SeesAll ps s 0 (Err r) t n ⊎ (SeesAll ps s 0 (Ok tt) t n × (r ≡ NoMemory))))))
+      ⊎ (MayAdd (entry path ps) w × (n : ℕ) × (SeesFile ps s (Err r) t n ⊎ (SeesFile ps s (Ok tt) t n × (r ≡ NoMemory))))))
 
   -- a file of these pieces is added to a day, once each of them is seen to
   abbrev pub DayAdds : List ℕ → List (List ℕ) → Work → S → Result Count Refusal → Work → S → Type 0
-  DayAdds path ps w s (Ok a) v t = MayAdd (entry path ps) w × SeesAll ps s 0 (Ok tt) t a.written × (a.pieces ≡ length ps) × (v ≡ with_file (entry path ps) w)
+  DayAdds path ps w s (Ok a) v t = MayAdd (entry path ps) w × SeesFile ps s (Ok tt) t a.written × (a.pieces ≡ length ps) × (v ≡ with_file (entry path ps) w)
   DayAdds path ps w s (Err r) v t = (v ≡ w) × NotAdded path ps w s r t
 
   -- so is a whole file, cut into its pieces

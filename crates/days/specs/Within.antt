@@ -1,4 +1,4 @@
--- Each step of the code is a step of the system, or none where it is refused. Adding a file is more: two for each piece that is listed and written, and one that adds the file or forgets what was seen to for it.
+-- Each step of the code is a step of the system, or none where it is refused. Adding a file is more: for each piece at most one that lists its name and one that sees to it, and one that adds the file or forgets what was seen to for it.
 -- Assumes nothing.
 use Rattle.std.specs.Prelude.{◌≡◌, ℕ, ◌+◌, ◌*◌, List, length, Option, Result}
 use Rattle.cutting.specs.Rule.{pieces}

@@ -14,7 +14,7 @@ pub fn steps_are_in_the_system<S: Store>()
     ensures { AreSteps S.does }
 {}
 
-// What each step has done over an exact store, and that a refusal changes nothing, but for pieces that were written before it.
+// What each step has done over an exact store, and that a refusal by a number changes nothing, but that a refused file may have listed names.
 pub fn steps_keep_the_promise<S: Store>()
     ensures { Promised S.does }
 {}

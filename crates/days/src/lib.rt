@@ -12,6 +12,8 @@ mod seeing;
 mod source;
 #[cfg(test)]
 mod tests;
+#[cfg(test)]
+mod watched;
 mod whole;
 
 pub use done::{Added, Done};

@@ -12,7 +12,7 @@ ghost use Rattle.days.specs.Steps.{AddsCut, DayAdds, DayNamed, DayRaises, DaySee
 ghost use Rattle.store.specs.State.{most_in_piece};
 
 use crate::done::{Added, Done};
-use crate::seeing::see_all;
+use crate::seeing::see_file;
 use cutting::Refusal;
 use dayfile::{Day, FileEntry, Path, write};
 use digest::{sha256, sha256_each};
@@ -82,7 +82,7 @@ impl Underway {
             return Err(Refusal::HasNumber);
         }
         let mut written = 0;
-        see_all(store, machine, &entry.pieces, pieces, buffer, &mut written)?;
+        see_file(store, machine, &entry.pieces, pieces, buffer, &mut written)?;
         self.day.append(entry)?;
         Ok(Added {
             pieces: pieces.len(),

@@ -22,15 +22,18 @@ fn read_right<S: Store>(store: &mut S, spot: Spot, name: Digest) -> Result<Optio
     Ok(Some(bytes))
 }
 
-// The bytes of a piece, from its place, else from aside.
+// The bytes of a piece, from its place, else from aside. Where it is put back between these two looks, neither finds it, so its place is looked at again.
 fn read_piece<S: Store>(store: &mut S, name: Digest) -> Result<Vec<u8>, Refusal>
     ensures { ReadsPiece S.does name store.old result store.new }
 {
     if let Some(bytes) = read_right(store, Spot::Place, name)? {
         return Ok(bytes);
     }
-    let aside = read_right(store, Spot::Aside, name)?;
-    aside.ok_or(Refusal::BadDay)
+    if let Some(bytes) = read_right(store, Spot::Aside, name)? {
+        return Ok(bytes);
+    }
+    let again = read_right(store, Spot::Place, name)?;
+    again.ok_or(Refusal::BadDay)
 }
 
 // Writes a piece into a file, behind the bytes that are there.

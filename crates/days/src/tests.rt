@@ -1,4 +1,5 @@
 // Each step on the store in memory, also where no script leads: what lies aside, other bytes in a place, the last number, a refused file.
+use crate::watched::Watched;
 use crate::{Added, Done, GivenFile, Machine, back};
 use cutting::Refusal;
 use dayfile::{Day, read};
@@ -290,5 +291,48 @@ fn a_whole_day_is_broken_off(rt: HostRuntime) -> Result<(), Fail> {
         refused == Err(Refusal::MakesDay) && machine.day().is_some(),
         "one that makes a day goes on with that"
     );
+    Ok(())
+}
+
+// A store on which a sweeper works, with nothing in it.
+fn new_watched(heap: Global) -> Result<Watched, Fail> {
+    Ok(Watched {
+        memory: new_store(heap)?,
+        listed_first: 0,
+        written: 0,
+    })
+}
+
+#[test]
+fn names_are_listed_first(rt: HostRuntime) -> Result<(), Fail> {
+    let heap = rt.alloc();
+    let mut store = new_watched(heap)?;
+    let (machine, _) = Machine::new(7).begin(heap, &mut store);
+    let (_, added) = machine.add(heap, &mut store, b"a", &ZEROS);
+    assert!(rt;
+        added
+            == Ok(Done::Added(Added {
+                pieces: 3,
+                written: 2
+            })),
+        "added"
+    );
+    assert!(rt;
+        store.listed_first == 4 && store.written == 2,
+        "each of the three that are not there, and the first one again before it is written"
+    );
+    Ok(())
+}
+
+#[test]
+fn what_is_put_back_between_two_looks_is_found(rt: HostRuntime) -> Result<(), Fail> {
+    let heap = rt.alloc();
+    let mut store = new_watched(heap)?;
+    let mut files = VecDeque::new(heap);
+    files.push_back(given(heap, b"a", b"first")?)?;
+    let (_, named) = Machine::new(7).make_day(heap, &mut store, &mut files);
+    assert!(rt; named == Ok(Done::Named(1)), "named");
+    assert!(rt; store.put_aside(sha256(b"first")) == Ok(true), "put aside");
+    assert!(rt; is_back(heap, &mut store, b"a", b"first"), "put back");
     Ok(())
 }

@@ -12,7 +12,7 @@ use Rattle.store.specs.Requests.{Kept, LetGo}
 use Rattle.store.specs.State.{State}
 use Rattle.days.specs.Machines.{Work}
 use Rattle.store.proofs.Exact.{refused}
-use Rattle.days.specs.Promise.{OnlyWrites}
+use Rattle.days.specs.Promise.{OnlyLists}
 use Rattle.days.proofs.Kept.{kept}
 use Rattle.sweeper.proofs.Kept as sweeps
 use Rattle.sweeper.specs.Sweepers.{Sweeping, sweeping}
@@ -43,13 +43,14 @@ abbrev IsFile : Step → Type 0
 IsFile (step.Machine i (act.File path m)) = Unit {0}
 IsFile other = ⊥
 
--- everything is left, or all but what a file that is refused may have written
+-- everything is left, or all but what a file that is refused may have listed
 abbrev Leaves : Step → Refusal → World → World → Type 0
 Leaves s r w v = LeavesMost w v × ((IsFile s → r ≡ TooManyNames → ⊥) → system_of v ≡ system_of w)
 
-only_same : {s t : State} → t ≡ s → OnlyWrites s t
+only_same : {s t : State} → t ≡ s → OnlyLists s t
 only_same e =
     record {
+      place = ap (λ x. x.place) e;
       aside = ap (λ x. x.aside) e;
       own = ap (λ x. x.own) e;
       days = ap (λ x. x.days) e;
@@ -65,12 +66,12 @@ leaves : {X : Type 0} (w v : World) → system_of v ≡ system_of w → LeavesMo
 leaves w v e = (most w v e, λ x. e)
 
 -- a step that adds no file and is refused
-no_file : {X : Type 0} {old new : Option Work} {s t : State} → (t ≡ s) × (new ≡ old) → (new ≡ old) × OnlyWrites s t × (X → t ≡ s)
+no_file : {X : Type 0} {old new : Option Work} {s t : State} → (t ≡ s) × (new ≡ old) → (new ≡ old) × OnlyLists s t × (X → t ≡ s)
 no_file (e, f) = (f, only_same e, λ x. e)
 
 -- a machine's step that is refused
 acts_refused : (a : Act) (w v : World) (i k : ℕ) (r : Refusal) → number_of r ≡ Some k → Acts a i (makes_at w i) w.store (Err r) (makes_at v i) v.store →
-    (makes_at v i ≡ makes_at w i) × OnlyWrites (state_of w.store) (state_of v.store) × ((IsFile (step.Machine i a) → r ≡ TooManyNames → ⊥) → state_of v.store ≡ state_of w.store)
+    (makes_at v i ≡ makes_at w i) × OnlyLists (state_of w.store) (state_of v.store) × ((IsFile (step.Machine i a) → r ≡ TooManyNames → ⊥) → state_of v.store ≡ state_of w.store)
 acts_refused act.Begin w v i k r e h = no_file ((kept memory_does state_of exact).refused i k _ _ w.store v.store r e (inl h))
 acts_refused (act.See m) w v i k r e (inl h) = no_file ((kept memory_does state_of exact).refused i k _ _ w.store v.store r e (inr (inl (_, h))))
 acts_refused (act.See m) w v i k r e (inr (some, is, new, f)) = no_file (ap state_of f, new)

@@ -10,7 +10,7 @@ use Rattle.store.specs.Memories.{state_of}
 use Rattle.dayfile.specs.Entries.{Entry}
 use Rattle.dayfile.specs.Stored.{HasFiles}
 use Rattle.days.specs.Files.{GivenBack}
-use Rattle.days.specs.Promise.{OnlyWrites, file_entry}
+use Rattle.days.specs.Promise.{OnlyLists, file_entry}
 use Rattle.script.specs.Lines.{first}
 use Rattle.sweeper.specs.Pieces.{IsThere}
 use Rattle.sweeper.specs.Sweepers.{sweeping}
@@ -53,15 +53,15 @@ is_damage other = false
 abbrev pub RunsOrDamages : {E : Type 0} → Result (Option Answer) E → World → World → Type 0
 RunsOrDamages r w v = (is_damage r ≡ true) ⊎ Run (system_of w) (system_of v)
 
--- nothing is changed but what lies in places and in the lists of machines
+-- nothing is changed but what is in the lists of machines
 abbrev pub LeavesMost : World → World → Type 0
-LeavesMost w v = OnlyWrites (state_of w.store) (state_of v.store) × (makes_at v ≡ makes_at w) × (sweeping v.sweeper ≡ sweeping w.sweeper)
+LeavesMost w v = OnlyLists (state_of w.store) (state_of v.store) × (makes_at v ≡ makes_at w) × (sweeping v.sweeper ≡ sweeping w.sweeper)
 
 -- a file is refused because the lists are full
 abbrev pub IsFull : List ℕ → Refusal → Type 0
 IsFull l r = (first l ≡ name_text name.File) × (r ≡ TooManyNames)
 
--- A line that is not played leaves everything as it was, where it is no step or is refused by a number. But where the lists are full, some pieces of a file may be listed and written before it is refused.
+-- A line that is not played leaves everything as it was, where it is no step or is refused by a number. But where the lists are full, the names of some pieces of a file may be listed before it is refused; none of them is written.
 abbrev pub LeavesAll : List ℕ → Unplayed → World → World → Type 0
 LeavesAll l (unplayed.Fault f) w v = v ≡ w
 LeavesAll l (unplayed.Refusal r) w v = (k : ℕ) → number_of r ≡ Some k → LeavesMost w v × ((IsFull l r → ⊥) → system_of v ≡ system_of w)

@@ -53,7 +53,11 @@ fn has_finished<S: Store>(store: &mut S, machine: u8, noted: u32) -> Result<bool
 }
 
 // So for a machine that is on the list; one that is not need not.
-fn has_finished_if_listed<S: Store>(store: &mut S, machine: u8, noted: u32) -> Result<bool, Refusal>
+pub fn has_finished_if_listed<S: Store>(
+    store: &mut S,
+    machine: u8,
+    noted: u32,
+) -> Result<bool, Refusal>
     ensures { FinishedIfListed S.does machine noted store.old result store.new }
 {
     if !store.has_machine(machine)? {

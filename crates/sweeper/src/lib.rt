@@ -11,7 +11,7 @@ mod sweeper;
 mod tests;
 mod turns;
 
-pub use deciding::noted_number;
+pub use deciding::{has_finished_if_listed, noted_number};
 pub use done::Done;
 pub use laws::{steps_are_in_the_system, steps_keep_the_promise};
 pub use sweeper::{Activity, Answer, Sweeper};
