@@ -1,0 +1,5 @@
+mod Lines
+mod Shown
+mod Splitting
+mod Values
+mod Words

@@ -1,0 +1,10 @@
+pub mod Arguments
+pub mod Asks
+pub mod Lines
+pub mod Moves
+pub mod Numbers
+pub mod Places
+pub mod Quotes
+pub mod Summaries
+pub mod Sweeps
+pub mod Tellings

@@ -1,0 +1,6 @@
+mod Signings
+mod Splitting
+mod Noting
+mod LinesRead
+mod Written
+pub mod Added

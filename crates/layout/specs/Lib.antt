@@ -1,0 +1,9 @@
+pub mod Lines
+pub mod Lists
+pub mod Machines
+pub mod Numbers
+pub mod Paths
+pub mod Reads
+pub mod Signed
+pub mod Sweeps
+pub mod Texts
