@@ -59,6 +59,21 @@ def readers():
     return [("readdays", [readdays.absolute()]), (name, [reference, "--read-days"])]
 
 
+@functools.cache
+def folder_programs():
+    """Ours and the plain Rust programs on a store in a folder, each as a name and the folder they are in."""
+    ours = Path(os.environ.get("PROGRAMS") or TOP / "target/bin")
+    plain = Path(os.environ.get("REFERENCE_PROGRAMS") or TOP / "target/reference-bin")
+    if not os.environ.get("REFERENCE_PROGRAMS"):
+        if subprocess.run([TOP / "tools/reference-programs"], stdin=subprocess.DEVNULL).returncode != 0:
+            raise Failure("the plain programs do not build")
+    for folder in (ours, plain):
+        for program in ("init", "day", "list", "back", "go", "sweep"):
+            if not os.access(folder / program, os.X_OK):
+                raise Failure(f"no program at {folder / program}: run tools/build first")
+    return [("ours", ours.absolute()), ("the plain ones", plain.absolute())]
+
+
 def build_reference():
     target = TOP / "target/cargo"
     command = ["cargo", "build", "--quiet", "--release", "--offline", "--locked"]
