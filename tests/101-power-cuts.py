@@ -39,11 +39,7 @@ def work():
 def calls_of(scene):
     """The calls of a whole run, and what must hold after it; the program must say that all is done."""
     at = work()
-    store = scene.copy(at)
-    words, more = scene.call(store.at)
-    answer, calls = trace(scene.program, words, **more)
-    if answer.status != 0:
-        raise Failure(f"{scene.program}, {scene.name}: {answer}")
+    store, answer, calls = scene.whole_run(at)
     last = scenes.state(at)
     scenes.afterwards(scene, store, answer)
     shutil.rmtree(at.parent)

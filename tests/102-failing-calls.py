@@ -19,7 +19,7 @@ from pathlib import Path
 import scenes
 import stores
 from common import Failure, main
-from stops import LINKS, MKDIRS, OPENS, READS, RENAMES, STATS, SYNCS, UNLINKS, WRITES, fail_at, touching, trace
+from stops import LINKS, MKDIRS, OPENS, READS, RENAMES, STATS, SYNCS, UNLINKS, WRITES, fail_at, touching
 
 # Of how many stats, of one path in one run one, one fails.
 STRIDE = 1 if os.environ.get("FULL") else 8
@@ -59,11 +59,7 @@ def work():
 def calls_of(scene):
     """The calls of a whole run, in the folder that they are made in."""
     at = work()
-    store = scene.copy(at)
-    words, more = scene.call(store.at)
-    answer, calls = trace(scene.program, words, **more)
-    if answer.status != 0:
-        raise Failure(f"{scene.program}, {scene.name}: {answer}")
+    store, _, calls = scene.whole_run(at)
     shutil.rmtree(at.parent)
     return store.at, touching(calls, at)
 

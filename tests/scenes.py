@@ -12,6 +12,7 @@ from typing import NamedTuple
 
 import stores
 from common import Failure, short
+from stops import trace
 from stores import Store, day_names, digits, file_pieces, highest, names_listed, new_store, pieces_of, run
 
 
@@ -50,6 +51,15 @@ class Scene(NamedTuple):
         else:
             words = ["--store", str(at), *words]
         return words, {"at": self.at, "given": self.given}
+
+    def whole_run(self, at):
+        """A copy of it, with the answer of its program, which must say that all is done, and the program's calls."""
+        store = self.copy(at)
+        words, more = self.call(store.at)
+        answer, calls = trace(self.program, words, **more)
+        if answer.status != 0:
+            raise Failure(f"{self.program}, {self.name}: {answer}")
+        return store, answer, calls
 
     def copy(self, work):
         """A copy of the store in a folder of its own, where the program is to run."""
