@@ -1,11 +1,13 @@
 -- The hexadecimal digits of bytes, two by two.
 -- Assumes nothing.
-use Rattle.std.proofs.Common.{◌≡◌, ℕ, zero, suc, ◌+◌, ◌*◌, ◌/◌, ◌%◌, ◌<◌, List, [], ◌∷◌, ◌++◌, length, get_or, take, drop, IsAscii, refl, ap, ◌∙◌, not-suc-le-zero, arith, length-drop}
+use Rattle.std.proofs.Common.{◌≡◌, ℕ, zero, suc, ◌+◌, ◌*◌, ◌/◌, ◌%◌, ◌<◌, ◌≤◌, List, [], ◌∷◌, ◌++◌, length, get_or, take, drop, set, IsAscii, sym, subst, refl, ap, ◌∙◌, ⊎_elim, not-suc-le-zero, arith, length-drop}
 use Rattle.std.specs.List.{flat_map}
 use Rattle.std.specs.Simd.{first_chunks}
 use Rattle.std.proofs.lemmas.Str.Ascii.{IsAscii-nil, IsAscii-cons}
+use Rattle.std.proofs.lemmas.Bool.{cases_lt}
 use Rattle.std.proofs.lemmas.Bool.Decides.{nat_tests}
-use Rattle.std.proofs.lemmas.List.{take-append-drop}
+use Rattle.std.proofs.lemmas.List.{take-append-drop, get_or-set_other}
+use Rattle.std.proofs.lemmas.Grind.{get_or-set_at}
 use Rattle.std.specs.Prelude.{Result, IsErr}
 use Rattle.std.proofs.lemmas.Result.{IfOk-from_err}
 use Rattle.digest.specs.declared.hex.NotADigest.{NotADigest}
@@ -81,6 +83,16 @@ same_digits (x ∷ xs) (y ∷ ys) l fx fy e =
     let first : x ≡ y = omega arith in
     let rest = same_digits xs ys (omega arith) (λ i below. fx (suc i) (omega arith)) (λ i. fy (suc i)) (ap (drop 2) e) in
     λ i. first i ∷ rest i
+
+-- an element is put where all before it have what is asked of each
+pub put_more : {X : Type 0} (P : ℕ → X → Type 0) (xs : List X) (i : ℕ) (y d : X) → i < length xs → P i y → ((j : ℕ) → j < i → P j (get_or xs j d)) → (j : ℕ) → j < i + 1 → P j (get_or (set xs i y) j d)
+put_more P xs i y d inside here before j below =
+    ⊎_elim
+    (λ (first : j < i). subst (P j) (sym (get_or-set_other xs i j y d (λ e. omega arith))) (before j first))
+    (λ (last : i ≤ j).
+    let e : j ≡ i = omega arith in
+    subst (P j) (sym (get_or-set_at xs i j y d e inside)) (subst (λ k. P k y) (sym e) here))
+    (cases_lt j i)
 
 -- a refusal is right where no digest has these digits
 pub refused : (text : List ℕ) (r : Result Digest NotADigest) → IsErr r → ((d : Digest) → Whole d → text ≡ hex d.bytes → ⊥) → Reads text r

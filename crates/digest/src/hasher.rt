@@ -45,7 +45,9 @@ impl Hasher {
         self.rest.try_extend_from_slice(first).unwrap();
         self.value = compress_all(self.value, self.rest.as_chunks::<64>().0);
         self.value = compress_all(self.value, whole);
-        self.rest = end.try_into().unwrap();
+        // In place, and not by `try_into`: for its copy a program in C that links this would have to bring memcpy.
+        self.rest = ArrayVec::new();
+        self.rest.try_extend_from_slice(end).unwrap();
     }
 
     // The digest of all that was taken in. The padding is taken in as the message was: the byte 0x80, bytes 0, and the message's length in bits.

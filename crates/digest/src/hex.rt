@@ -56,7 +56,11 @@ impl Digest {
         ensures value { result ≡ hex self.now.bytes }
         ensures ascii { IsAscii result }
     {
-        let pairs = self.bytes.map(pair_of);
+        // a loop, since with `map` this took some ten times as long
+        let mut pairs = [[b'0'; 2]; 32];
+        for (i, byte) in self.bytes.iter().enumerate() {
+            pairs[i] = pair_of(*byte);
+        }
         *pairs.as_flattened().as_array::<64>().unwrap()
     }
 
@@ -68,7 +72,11 @@ impl Digest {
             return Err(NotADigest);
         };
         let pairs = pairs.as_array::<32>().ok_or(NotADigest)?;
-        let bytes = pairs.try_map(byte_of)?;
+        // a loop, since with `try_map` this took three times as long
+        let mut bytes = [0; 32];
+        for (i, pair) in pairs.iter().enumerate() {
+            bytes[i] = byte_of(*pair)?;
+        }
         Ok(Digest { bytes })
     }
 }

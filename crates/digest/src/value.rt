@@ -1,8 +1,16 @@
 // A digest: 32 bytes, compared as bytes are.
 ghost use Rattle.std.specs.Prelude.{◌≡◌, Some, Decides};
+ghost use Rattle.std.specs.Cmp.{partial_order_from_own_ties};
+ghost use Rattle.std.specs.Cmp.Lexicographic.{slice_cmp};
+ghost use Rattle.std.specs.Cmp.Rules.{comparing};
+ghost use Rattle.std.specs.Ordering.{as_partial_cmp, nat_cmp, on};
+ghost use Rattle.std.proofs.Common.{rules};
 ghost use Rattle.digest.specs.Order.{order, TotalOrder, LibraryOrder, LibraryEquality};
 
-#[derive(Clone, Copy, Debug, PartialEq, Eq, PartialOrd, Ord, Hash)]
+use std::cmp::Ordering;
+
+// The order is written out, since a derived one has no contract of its own, and callers are told of `order` by the contracts of `cmp` and `partial_cmp`.
+#[derive(Clone, Copy, Debug, PartialEq, Eq, Hash)]
 pub struct Digest {
     pub(crate) bytes: [u8; 32],
 }
@@ -23,8 +31,37 @@ impl From<[u8; 32]> for Digest {
     }
 }
 
-// What the derived comparisons answer: == decides equality, the order is that of the bytes, and it is total. Nothing runs here: the contract is the theorem.
-// A function whose contract speaks of an order that it asks for calls this first.
+impl PartialOrd for Digest {
+    ghost partial_cmp = { as_partial_cmp (on (λ d. d.bytes) (slice_cmp nat_cmp)) };
+
+    ghost laws = { partial_order_from_own_ties (Prim.search (comparing, rules)) (Prim.search (comparing, rules)) };
+
+    fn partial_cmp(&self, other: &Digest) -> Option<Ordering>
+        ensures answer { result ≡ Some (slice_cmp nat_cmp self.now.bytes other.now.bytes) }
+        ensures order { result ≡ Some (order self.now.bytes other.now.bytes) }
+    {
+        Some(self.cmp(other))
+    }
+}
+
+impl Ord for Digest {
+    ghost cmp = { on (λ d. d.bytes) (slice_cmp nat_cmp) };
+
+    ghost total = { Prim.search (comparing, rules) };
+
+    ghost matches_partial_cmp = { Prim.search (comparing, rules) };
+
+    ghost matches_eq = { Prim.search (comparing, rules) };
+
+    fn cmp(&self, other: &Digest) -> Ordering
+        ensures answer { result ≡ slice_cmp nat_cmp self.now.bytes other.now.bytes }
+        ensures order { result ≡ order self.now.bytes other.now.bytes }
+    {
+        self.bytes.cmp(&other.bytes)
+    }
+}
+
+// What generic code is told of the comparisons: == decides equality, the order is that of the bytes, and it is total. Nothing runs here: the contract is the theorem.
 pub fn order_is_total()
     ensures total { TotalOrder }
     ensures decides { (x y : Digest) → Decides (⟦<Digest as PartialEq>⟧.eq x y) (x ≡ y) }

@@ -22,13 +22,17 @@ const MOST_NUMBER: u64 = 1_073_741_824;
 // Nor is any other number.
 const MOST_IN_STORE: u64 = 4_294_967_295;
 
-// The number that a hexadecimal digit stands for; capitals are allowed.
+// The number that a hexadecimal digit stands for; capitals are allowed. By hand: with the library's `to_digit` a word of digits took half as long again to read.
 fn digit_value(c: u8) -> Option<u8>
     ensures value { result ≡ hex_value c }
     ensures small { IfSome result (λ d. d < 16) }
 {
-    let digit = (c as char).to_digit(16)?;
-    Some(digit as u8)
+    match c {
+        b'0'..=b'9' => Some(c - b'0'),
+        b'a'..=b'f' => Some(c - b'a' + 10),
+        b'A'..=b'F' => Some(c - b'A' + 10),
+        _ => None,
+    }
 }
 
 // The number that a digit at this place of a word stands for; places are counted from 1.
