@@ -1,5 +1,5 @@
 // A script that comes in parts: the line that is being read, and the answer to each that ends.
-ghost use Rattle.std.specs.Prelude.{◌≡◌, ℕ, ◌+◌, ◌%◌, ◌^◌, ◌<◌, ◌≤◌, List, [], ◌++◌, length, Decides, IfOk, IfErr, IfSome};
+ghost use Rattle.std.specs.Prelude.{◌≡◌, ℕ, ◌+◌, ◌%◌, ◌^◌, ◌<◌, ◌≤◌, List, [], ◌++◌, length, Decides, IfOk, IfErr, IfSome, ◌≢◌, slice_index};
 ghost use Rattle.std.specs.Result.{ForOk};
 ghost use Rattle.rehearsal.specs.Answers.{chomped, most};
 ghost use Rattle.rehearsal.specs.Unkepts.{IsUnkept};
@@ -10,6 +10,7 @@ use crate::unkept::Unkept;
 use crate::unplayed::Unplayed;
 use script::Fault;
 use std::alloc::Global;
+use std::mem;
 
 // A longer line is not kept.
 const MOST_IN_LINE: usize = 67_108_864;
@@ -21,6 +22,8 @@ pub struct Pending {
     ended: u64,
     // the line so far, where it is kept
     line: Result<Vec<u8>, Unkept>,
+    // Where it is not, the memory that it had: else there might be none for a line after it.
+    spare: Vec<u8>,
     ghost fits: { ForOk line (λ v. length v.items ≤ most) },
 }
 
@@ -36,6 +39,20 @@ fn without_return(line: &[u8]) -> &[u8]
     ensures { result.now ≡ chomped line.now }
 {
     line.strip_suffix(b"\r").unwrap_or(line)
+}
+
+// Where the first newline is, or how many bytes there are. A number and no Option, and a loop over the places: by `position` long lines took half as long again.
+fn line_end(bytes: &[u8]) -> usize
+    ensures within { result ≤ length bytes.now }
+    ensures before { (k : ℕ) → k < result → slice_index bytes.now k ≢ 10 }
+    ensures found { result < length bytes.now → slice_index bytes.now result ≡ 10 }
+{
+    for i in 0..bytes.len() {
+        if bytes[i] == b'\n' {
+            return i;
+        }
+    }
+    bytes.len()
 }
 
 // Adds bytes to a line that is kept.
@@ -63,6 +80,7 @@ impl Pending {
             heap,
             ended: 0,
             line: Ok(Vec::new(heap)),
+            spare: Vec::new(heap),
         }
     }
 
@@ -74,11 +92,12 @@ impl Pending {
         if let Ok(line) = &mut self.line
             && let Err(unkept) = add(line, part)
         {
+            mem::swap(line, &mut self.spare);
             self.line = Err(unkept);
         }
     }
 
-    // Ends the line, answers it, and begins the next one, in the same memory where this one was kept.
+    // Ends the line, answers it, and begins the next one in the same memory.
     pub fn end(&mut self, rehearsal: &mut Rehearsal) -> LineAnswer
         ensures ended { self.new.ended ≡ (self.old.ended + 1) % 2 ^ 64 }
         ensures answer { (l : List ℕ) → Holds self.old l → LineAnswers self.new.ended l rehearsal.old.world result rehearsal.new.world }
@@ -93,7 +112,9 @@ impl Pending {
             }
             Err(unkept) => {
                 let why = Unplayed::Fault(Fault::from(*unkept));
-                self.line = Ok(Vec::new(self.heap));
+                let mut line = mem::replace(&mut self.spare, Vec::new(self.heap));
+                line.clear();
+                self.line = Ok(line);
                 Err(LineFault { number, why })
             }
         };
@@ -106,11 +127,11 @@ impl Pending {
         ensures shorter { IfSome result (λ a. length a.after.now < length part.now) }
         ensures taken { (l : List ℕ) → Holds self.old l → TakesIn l self.old.ended part.now rehearsal.old.world result self.new rehearsal.new.world }
     {
-        let Some(end) = part.iter().position(|b| *b == b'\n') else {
-            self.extend(part);
-            return None;
-        };
+        let end = line_end(part);
         self.extend(&part[..end]);
+        if end == part.len() {
+            return None;
+        }
         Some(Answered {
             answer: self.end(rehearsal),
             after: &part[end + 1..],
