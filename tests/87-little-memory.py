@@ -4,6 +4,7 @@ and the script goes on. The plain Rust program gives up there, and is left out."
 
 import resource
 import subprocess
+import tempfile
 
 from common import MAX_FILE, TIME_LIMIT, Failure, agreed_lines, check, cut_answer, had_back, main, pieces, programs
 from common import sha256
@@ -21,13 +22,14 @@ LINES = [
 ]
 
 
-def answers(path, script, limit):
-    """What the program writes where it may have so many bytes of addresses."""
+def answers(path, script, limit, file=None):
+    """What the program writes where it may have so many bytes of addresses, for a script or for one in a file."""
 
     def set_limit():
         resource.setrlimit(resource.RLIMIT_AS, (limit, limit))
 
-    done = subprocess.run([path], input=script, capture_output=True, timeout=TIME_LIMIT, preexec_fn=set_limit)
+    given = {"stdin": file} if file else {"input": script}
+    done = subprocess.run([path], **given, capture_output=True, timeout=TIME_LIMIT, preexec_fn=set_limit)
     if done.returncode != 0 or done.stderr:
         raise Failure(f"with {limit} bytes: exit status {done.returncode}, standard error {done.stderr[:200]}")
     return done.stdout.decode().splitlines()
@@ -211,6 +213,23 @@ def back_files(path):
         raise Failure("with each limit there was memory for a file that is added")
 
 
+MOST_IN_LINE = 67_108_864
+
+
+def long_lines(path):
+    """A line that is too long is not kept, and leaves its memory to the next: where a line as long as may be had room before it, one has it after it."""
+    limit = 90 * MEGABYTE
+    passes = b"#" * MOST_IN_LINE
+    with tempfile.TemporaryFile() as script:
+        # a file, so that the program reads as much at a time as it asks for
+        script.write(b"\n".join([passes, passes + b"#", b"digest", passes[:-1] + b"\r", b"digest repeat 61 3"]))
+        script.seek(0)
+        got = answers(path, None, limit, script)
+    wanted = [f"line 2: longer than {MOST_IN_LINE} bytes", sha256(b""), sha256(b"aaa")]
+    if got != wanted:
+        raise Failure(f"with {limit} bytes: lines as long as may be are answered by {got}, not {wanted}")
+
+
 def test():
     script = b"".join(line + b"\n" for line, _ in LINES)
     check(script, [line for _, answer in LINES for line in answer])
@@ -219,6 +238,7 @@ def test():
     fill_store(path)
     sweep_store(path)
     back_files(path)
+    long_lines(path)
     limits = range(12 * MEGABYTE, 80 * MEGABYTE, 2 * MEGABYTE)
     found = [played(answers(path, script, limit), limit) for limit in limits]
     counts = ", ".join(str(sum(which)) for which in found)
